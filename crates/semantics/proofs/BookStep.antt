@@ -1,0 +1,267 @@
+-- One call on the book's image answers and leaves what the book says, and the book stays lawful.
+use mathlib.Core.Path.{_≡_, refl, sym, ap, ap₂, _∙_, subst}
+use Prim.Native.Nat.{ℕ, zero, suc, _+_, _*_, _^_, _≤_, _<_}
+use native.Mathlib.Nat.{le-refl, le-trans, lt-of-lt-of-le}
+use native.Mathlib.Omega.{arith}
+use mathlib.Core.Bool.{Bool, true, false, not, cond, _&&_, _||_}
+use mathlib.Core.List.{List, [], _∷_, _++_, append-assoc}
+use lib.ListN.{length}
+use lib.Dec.{ltb, eqb}
+use lib.Pow.{pow-mono}
+use Rattle.semantics.specs.Bytes.{allOf, implies, every, some-below, lowest, bit, mask}
+use Rattle.semantics.specs.Plan.{Plan, interactions}
+use Rattle.semantics.specs.Code.{State}
+use Rattle.semantics.specs.Refusal.{Rule, rule, unless, refusal}
+use Rattle.semantics.specs.Rules.{planRules, planRefusal}
+use Rattle.semantics.specs.Move.{Configuration, enabled, outranked, eligible, after, good, initial}
+use Rattle.semantics.specs.Image.{Image, image, withMarks, marksOf, configurationOf, headMatches, configurationOk, markOk, marksOk, lengthRule, imageRules}
+use Rattle.semantics.specs.Calls.{Answer, offers, committed, cancelled, stalled, penned, refused, Outcome, outcome, unlessRefused, clerkRules, offeredMask, withBit, tried, safeMove, settled, Call, offered, try, settle, callRules, performed, called}
+use Rattle.semantics.specs.Book.{Book, replay, lane, bookImage, listed, crossedOff, Entry, entry, bookOffered, bookRefusal, bookTried, unlessWrong, bookSafe, bookSettled, turn}
+use Rattle.semantics.proofs.Basics.{bool-cases, absurd-bool, same-test, not-yes, or-cases, or-right, implies-yes, Each, each, all-of, ltb-true, ltb-false, lt-ltb, le-ltb, eqb-true, eq-eqb, ne-eqb, every-all, lowest-is, lowest-none}
+use Rattle.semantics.proofs.Masks.{bit-mask, bit-mask-over, mask-lt, mask-wider, mask-same, mask-none}
+use Rattle.semantics.proofs.Refusing.{tests, numbered, none-refused, all-kept, refusal-after}
+use Rattle.semantics.proofs.AcceptedPlan.{Accepted, accepted-plan, plan-numbered, Counts, counts-of}
+use Rattle.semantics.proofs.Images.{length-image, withMarks-image, marks-back, head-matches, configuration-back}
+use Rattle.semantics.proofs.Sound.{Sound, shaped, configuration-ok, sound-after}
+
+-- what a book keeps from an accepted start on: its lane is sound and good, and each move crossed off is eligible there and ends bad
+pub record Lawful (p : Plan) (k : Book) : Type 0 where
+  pub sound : Sound p (lane p k)
+  pub is-good : good p (lane p k) ≡ true
+  pub crossed-bad : (i : ℕ) → i < interactions p → k .crossed i ≡ true → markOk p (lane p k) i ≡ true
+
+-- ---- the book's lane
+
+pub replay-snoc : (p : Plan) (c : Configuration) (is : List ℕ) (i : ℕ) → replay p c (is ++ (i ∷ [])) ≡ after p (replay p c is) i
+unfolding replay
+replay-snoc p c [] i = refl
+replay-snoc p c (j ∷ is) i = replay-snoc p (after p c j) is i
+
+pub lane-listed : (p : Plan) (k : Book) (i : ℕ) → lane p (listed k i) ≡ after p (lane p k) i
+unfolding lane
+lane-listed p k i = replay-snoc p (initial p) (k .done) i
+
+-- crossing moves off leaves the lane as it is
+pub lane-crossed : (p : Plan) (k : Book) (f : ℕ → Bool) → lane p (crossedOff k f) ≡ lane p k
+unfolding lane
+lane-crossed p k f = refl
+
+-- the image after a commit is the book's
+image-listed : (p : Plan) (k : Book) (i : ℕ) → image p (after p (lane p k) i) 0 ≡ bookImage p (listed k i)
+unfolding bookImage
+image-listed p k i = ap₂ (image p) (sym (lane-listed p k i)) (sym (mask-none (interactions p)))
+
+-- ---- under an accepted plan
+
+module _ (p : Plan) (e : planRefusal p ≡ 0) where
+  here : Accepted p
+  here = accepted-plan p e
+
+  small : (f : ℕ → Bool) → mask (interactions p) f < 18446744073709551616
+  unfolding here
+  small f = lt-of-lt-of-le (mask-lt (interactions p) f) (pow-mono {j = 64} (counts-of p (here .counts) .interactions≤))
+
+  module _ (k : Book) (h : Lawful p k) where
+    -- the book's image holds its lane, and its set as marks
+    held-lane : configurationOf (bookImage p k) ≡ lane p k
+    unfolding bookImage
+    held-lane = configuration-back p (lane p k) (mask (interactions p) (k .crossed)) (shaped p (lane p k) (h .sound))
+
+    held-marks : marksOf (bookImage p k) ≡ mask (interactions p) (k .crossed)
+    unfolding bookImage
+    held-marks = marks-back p (lane p k) (mask (interactions p) (k .crossed)) (small (k .crossed))
+
+    -- it passes 14
+    marks-lawful : marksOk p (lane p k) (mask (interactions p) (k .crossed)) ≡ true
+    unfolding marksOk
+    marks-lawful =
+        every-all 64 (λ i. implies (bit (mask (interactions p) (k .crossed)) i) (markOk p (lane p k) i))
+          (λ i l. implies-yes (bit (mask (interactions p) (k .crossed)) i) (markOk p (lane p k) i)
+            (λ b. bool-cases (ltb i (interactions p))
+              (λ t. h .crossed-bad i (ltb-true i (interactions p) t) (sym (bit-mask (interactions p) (k .crossed) i (ltb-true i (interactions p) t)) ∙ b))
+              (λ t. absurd-bool b (bit-mask-over (interactions p) (k .crossed) i (ltb-false i (interactions p) t)))))
+
+    -- 11 to 14 do not apply
+    image-kept : Each (tests (imageRules p (bookImage p k)))
+    unfolding imageRules lengthRule
+    image-kept =
+        (eq-eqb _ _ (image-long), (matches, (rw held-lane (configuration-ok p (lane p k) (h .sound) (h .is-good)), (rw (held-lane, held-marks) marks-lawful, tt))))
+      where
+        image-long : length (bookImage p k) ≡ 312
+        image-long = unfold bookImage in length-image p (lane p k) (mask (interactions p) (k .crossed)) (shaped p (lane p k) (h .sound))
+        matches : headMatches p (bookImage p k) ≡ true
+        matches = unfold bookImage in head-matches p (lane p k) (mask (interactions p) (k .crossed))
+
+    plan-kept : Each (tests (planRules p))
+    unfolding planRefusal
+    plan-kept = none-refused (planRules p) (plan-numbered p) e
+
+    -- a bit of the marks below I is the set's
+    mark-is : (i : ℕ) → i < interactions p → bit (marksOf (bookImage p k)) i ≡ k .crossed i
+    mark-is i l = rw held-marks (bit-mask (interactions p) (k .crossed) i l)
+
+    -- 16 to 19 apply as in the book
+    clerk-same : (i : ℕ) → refusal (clerkRules p (bookImage p k) i) ≡ bookRefusal p k i
+    unfolding clerkRules bookRefusal refusal unless
+    clerk-same i =
+        bool-cases (ltb i (interactions p)) (λ t. rw (held-lane, mark-is i (ltb-true i (interactions p) t)))
+          (λ t. rw t)
+
+    offered-same : offeredMask p (bookImage p k) ≡ bookOffered p k .answer .bits
+    unfolding offeredMask bookOffered
+    offered-same =
+        mask-same (interactions p) (λ i. allOf (eligible p (lane p k .state) i ∷ not (k .crossed i) ∷ []))
+          (λ i. allOf (eligible p (configurationOf (bookImage p k) .state) i ∷ not (bit (marksOf (bookImage p k)) i) ∷ []))
+          (λ i l. ap₂ (λ (c : Configuration) (b : Bool). allOf (eligible p (c .state) i ∷ not b ∷ [])) held-lane (mark-is i l))
+
+    -- the mark of move i set beside the others
+    bit-set : (i : ℕ) → i < interactions p → withBit (mask (interactions p) (k .crossed)) i ≡ mask (interactions p) (crossedOff k (λ j. eqb j i) .crossed)
+    unfolding withBit here
+    bit-set i l =
+        mask-wider (interactions p) 64 (λ j. k .crossed j || eqb j i) (λ j. bit (mask (interactions p) (k .crossed)) j || eqb j i)
+          (counts-of p (here .counts) .interactions≤)
+          (λ j m. ap (λ (b : Bool). b || eqb j i) (bit-mask (interactions p) (k .crossed) j m))
+          (λ j m n. rw (bit-mask-over (interactions p) (k .crossed) j m) (ne-eqb j i (λ q. other j q m)))
+      where
+        other : (j : ℕ) → j ≡ i → interactions p ≤ j → ⊥
+        other j q m = omega arith
+
+    image-crossed : (f : ℕ → Bool) → image p (lane p k) (mask (interactions p) (crossedOff k f .crossed)) ≡ bookImage p (crossedOff k f)
+    unfolding bookImage lane
+    image-crossed f = refl
+
+    tried-same : (i : ℕ) → i < interactions p → tried p (bookImage p k) i ≡ outcome (bookTried p k i .answer) (bookImage p (bookTried p k i .book))
+    unfolding tried bookTried
+    tried-same i l =
+        rw (held-lane, held-marks, bit-set i l)
+          (bool-cases (good p (after p (lane p k) i)) (λ t. rw t (ap (outcome (committed i)) (image-listed p k i)))
+            (λ t. rw t (ap (outcome (cancelled i)) (marked ∙ image-crossed (λ j. eqb j i)))))
+      where
+        marked : withMarks (bookImage p k) (mask (interactions p) (crossedOff k (λ j. eqb j i) .crossed))
+            ≡ image p (lane p k) (mask (interactions p) (crossedOff k (λ j. eqb j i) .crossed))
+        marked = unfold bookImage in withMarks-image p (lane p k) (mask (interactions p) (k .crossed)) (mask (interactions p) (crossedOff k (λ j. eqb j i) .crossed))
+
+    safe-same : safeMove p (lane p k) ≡ bookSafe p k
+    unfolding safeMove bookSafe
+    safe-same = refl
+
+    -- past 14 the moves crossed off are eligible: crossing off all that are leaves exactly those
+    all-crossed : mask (interactions p) (eligible p (lane p k .state)) ≡ mask (interactions p) (crossedOff k (eligible p (lane p k .state)) .crossed)
+    unfolding markOk
+    all-crossed =
+        mask-same (interactions p) (λ j. k .crossed j || eligible p (lane p k .state) j) (eligible p (lane p k .state))
+          (λ j l. same-test (eligible p (lane p k .state) j) (k .crossed j || eligible p (lane p k .state) j)
+            (or-right (k .crossed j) (eligible p (lane p k .state) j))
+            (λ t. or-cases (k .crossed j) (eligible p (lane p k .state) j) t (λ b. each _ (h .crossed-bad j l b) .1 .0) (λ b. b)))
+
+    settled-same : settled p (bookImage p k) ≡ outcome (bookSettled p k .answer) (bookImage p (bookSettled p k .book))
+    unfolding settled bookSettled
+    settled-same =
+        rw (held-lane, safe-same, all-crossed)
+          (bool-cases (ltb (bookSafe p k) (interactions p)) (λ t. rw t (ap (outcome (committed (bookSafe p k))) (image-listed p k (bookSafe p k))))
+            (λ t. bool-cases (some-below (interactions p) (enabled p (lane p k .state)))
+              (λ u. rw (t, u) (ap (outcome penned) (marked ∙ image-crossed (eligible p (lane p k .state))))) (λ u. rw (t, u) refl)))
+      where
+        marked : withMarks (bookImage p k) (mask (interactions p) (crossedOff k (eligible p (lane p k .state)) .crossed))
+            ≡ image p (lane p k) (mask (interactions p) (crossedOff k (eligible p (lane p k .state)) .crossed))
+        marked = unfold bookImage in withMarks-image p (lane p k) (mask (interactions p) (k .crossed)) (mask (interactions p) (crossedOff k (eligible p (lane p k .state)) .crossed))
+
+    -- ---- one call
+
+    -- a try that is not wrong names one of the plan's interactions, eligible and not crossed off
+    pub record Allowed (i : ℕ) : Type 0 where
+      pub number< : i < interactions p
+      pub is-eligible : eligible p (lane p k .state) i ≡ true
+      pub not-crossed : k .crossed i ≡ false
+
+    pub allowed-try : (i : ℕ) → bookRefusal p k i ≡ 0 → Allowed i
+    unfolding bookRefusal eligible numbered
+    allowed-try i r = let a = none-refused _ refl r in
+        record { number< = ltb-true _ _ (a .0); is-eligible = all-of _ (a .1 .0, (a .1 .1 .0, tt)); not-crossed = not-yes (k .crossed i) (a .1 .1 .1 .0) }
+
+    -- nothing but 16 to 19 refuses a call
+    no-refusal : refusal (planRules p ++ imageRules p (bookImage p k)) ≡ 0
+    no-refusal = refusal-after (planRules p) (imageRules p (bookImage p k)) plan-kept ∙ all-kept (imageRules p (bookImage p k)) image-kept
+
+    try-refusal : (i : ℕ) → refusal (planRules p ++ imageRules p (bookImage p k) ++ clerkRules p (bookImage p k) i) ≡ bookRefusal p k i
+    try-refusal i =
+        ap refusal (append-assoc (planRules p) (imageRules p (bookImage p k)) (clerkRules p (bookImage p k) i))
+        ∙ refusal-after (planRules p) (imageRules p (bookImage p k) ++ clerkRules p (bookImage p k) i) plan-kept
+        ∙ refusal-after (imageRules p (bookImage p k)) (clerkRules p (bookImage p k) i) image-kept
+        ∙ clerk-same i
+
+    tried-unless : (i n : ℕ) → bookRefusal p k i ≡ n
+        → unlessRefused n (bookImage p k) (tried p (bookImage p k) i)
+          ≡ outcome (unlessWrong n k (bookTried p k i) .answer) (bookImage p (unlessWrong n k (bookTried p k i) .book))
+    unfolding unlessRefused unlessWrong
+    tried-unless i zero r = tried-same i (allowed-try i r .number<)
+    tried-unless i (suc n) r = refl
+
+    pub one-call : (c : Call) → called p (bookImage p k) c ≡ outcome (turn p k c .answer) (bookImage p (turn p k c .book))
+    unfolding called callRules performed turn bookOffered unlessRefused
+    one-call offered = rw (no-refusal, offered-same)
+    one-call (try i) = rw (try-refusal i) (tried-unless i (bookRefusal p k i) refl)
+    one-call settle = rw no-refusal settled-same
+
+    -- ---- the book stays lawful
+
+    -- a good eligible move is listed
+    pub listed-lawful : (i : ℕ) → i < interactions p → eligible p (lane p k .state) i ≡ true → good p (after p (lane p k) i) ≡ true → Lawful p (listed k i)
+    unfolding eligible here
+    listed-lawful i l m g =
+        record
+          { sound = rw (lane-listed p k i) (sound-after p here (lane p k) (h .sound) i l (each _ m .0))
+          ; is-good = rw (lane-listed p k i) g
+          ; crossed-bad = λ j n b. absurd-bool b refl
+          }
+
+    -- moves that may be marked are crossed off
+    crossed-lawful : (f : ℕ → Bool) → ((i : ℕ) → i < interactions p → f i ≡ true → markOk p (lane p k) i ≡ true) → Lawful p (crossedOff k f)
+    unfolding lane
+    crossed-lawful f bad =
+        record
+          { sound = h .sound
+          ; is-good = h .is-good
+          ; crossed-bad = λ i l b. or-cases (k .crossed i) (f i) b (h .crossed-bad i l) (bad i l)
+          }
+
+    tried-lawful : (i : ℕ) → Allowed i → Lawful p (bookTried p k i .book)
+    unfolding bookTried markOk
+    tried-lawful i a =
+        bool-cases (good p (after p (lane p k) i)) (λ t. rw t (listed-lawful i (a .number<) (a .is-eligible) t))
+          (λ t. rw t (crossed-lawful (λ j. eqb j i)
+            (λ j l b. rw (eqb-true j i b) (all-of _ (lt-ltb i (interactions p) (a .number<), (a .is-eligible, (rw t refl, tt)))))))
+
+    wrong-lawful : (i n : ℕ) → bookRefusal p k i ≡ n → Lawful p (unlessWrong n k (bookTried p k i) .book)
+    unfolding unlessWrong
+    wrong-lawful i zero r = tried-lawful i (allowed-try i r)
+    wrong-lawful i (suc n) r = h
+
+    settled-lawful : Lawful p (bookSettled p k .book)
+    unfolding bookSettled bookSafe markOk
+    settled-lawful =
+        let f : ℕ → Bool = λ i. allOf (eligible p (lane p k .state) i ∷ good p (after p (lane p k) i) ∷ []) in
+        bool-cases (ltb (bookSafe p k) (interactions p))
+          (λ t.
+            let l : bookSafe p k < interactions p = ltb-true _ _ t in
+            let q = each _ (lowest-is (interactions p) f .hit l) in
+            rw t (listed-lawful (bookSafe p k) l (q .0) (q .1 .0)))
+          (λ t. bool-cases (some-below (interactions p) (enabled p (lane p k .state)))
+            (λ u. rw (t, u) (crossed-lawful (eligible p (lane p k .state))
+              (λ i l b. all-of _ (lt-ltb i (interactions p) l, (b, (no-good i l b t, tt))))))
+            (λ u. rw (t, u) h))
+      where
+        no-good : (i : ℕ) → i < interactions p → eligible p (lane p k .state) i ≡ true
+            → ltb (lowest (interactions p) (λ j. allOf (eligible p (lane p k .state) j ∷ good p (after p (lane p k) j) ∷ []))) (interactions p) ≡ false
+            → not (good p (after p (lane p k) i)) ≡ true
+        no-good i l b t =
+            let f : ℕ → Bool = λ j. allOf (eligible p (lane p k .state) j ∷ good p (after p (lane p k) j) ∷ []) in
+            bool-cases (good p (after p (lane p k) i))
+              (λ g. absurd-bool (all-of (eligible p (lane p k .state) i ∷ good p (after p (lane p k) i) ∷ []) (b, (g, tt))) (lowest-none (interactions p) f t i l))
+              (λ g. rw g refl)
+
+    pub turn-lawful : (c : Call) → Lawful p (turn p k c .book)
+    unfolding turn bookOffered
+    turn-lawful offered = h
+    turn-lawful (try i) = wrong-lawful i (bookRefusal p k i) refl
+    turn-lawful settle = settled-lawful

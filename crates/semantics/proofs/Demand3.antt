@@ -1,0 +1,61 @@
+-- Demand 3, whole: from an accepted start on, for every list of calls, every answer and every byte of the image after each call are the book's.
+use mathlib.Core.Path.{_≡_, refl, sym, ap, ap₂, _∙_, subst}
+use Prim.Native.Nat.{ℕ, zero, suc}
+use native.Mathlib.Omega.{arith}
+use mathlib.Core.Bool.{Bool, true, false}
+use mathlib.Core.List.{List, [], _∷_, _++_}
+use Rattle.semantics.specs.Plan.{Plan}
+use Rattle.semantics.specs.Refusal.{rule, refusal}
+use Rattle.semantics.specs.Rules.{planRules, planRefusal}
+use Rattle.semantics.specs.Move.{initial, good}
+use Rattle.semantics.specs.Image.{Image, image, lengthRule}
+use Rattle.semantics.specs.Calls.{Answer, accepted, refused, Outcome, outcome, unlessRefused, startRules, start, Call, called, calledAll, session}
+use Rattle.semantics.specs.Book.{Book, blank, lane, replay, bookImage, turn, told, bookSession}
+use Rattle.semantics.proofs.Basics.{absurd-bool}
+use Rattle.semantics.proofs.Masks.{mask-none}
+use Rattle.semantics.proofs.Refusing.{numbered, none-refused, refusal-before, refusal-after}
+use Rattle.semantics.proofs.AcceptedPlan.{accepted-plan, plan-numbered}
+use Rattle.semantics.proofs.Sound.{sound-initial}
+use Rattle.semantics.proofs.BookStep.{Lawful, one-call, turn-lawful}
+
+-- ---- an accepted start
+
+-- the kind of a refusal is not 0
+not-refused : (n : ℕ) (b : Image) (o : Outcome) → unlessRefused n b o .answer .kind ≡ 0 → n ≡ 0
+unfolding unlessRefused
+not-refused zero b o e = refl
+not-refused (suc n) b o e = let q : _≡_ {A = ℕ} 5 0 = e in omega arith
+
+pub start-rules : (p : Plan) (b : Image) → start p b .answer .kind ≡ 0 → refusal (startRules p b) ≡ 0
+unfolding start
+start-rules p b e = not-refused (refusal (startRules p b)) b _ e
+
+pub start-plan : (p : Plan) (b : Image) → start p b .answer .kind ≡ 0 → planRefusal p ≡ 0
+unfolding planRefusal startRules
+start-plan p b e = refusal-before (planRules p) _ (start-rules p b e) (plan-numbered p)
+
+pub start-good : (p : Plan) (b : Image) → start p b .answer .kind ≡ 0 → good p (initial p) ≡ true
+unfolding startRules numbered planRules lengthRule
+start-good p b e = none-refused (startRules p b) refl (start-rules p b e) .1 .1 .1 .1 .1 .1 .1 .1 .1 .1 .1 .0
+
+-- it answers accepted and leaves the book's first image
+pub start-is : (p : Plan) (b : Image) → start p b .answer .kind ≡ 0 → start p b ≡ outcome accepted (bookImage p blank)
+unfolding start unlessRefused bookImage lane replay
+start-is p b e = rw (start-rules p b e) (ap (λ (m : ℕ). outcome accepted (image p (initial p) m)) (sym (mask-none _)))
+
+pub blank-lawful : (p : Plan) (b : Image) → start p b .answer .kind ≡ 0 → Lawful p blank
+unfolding lane replay
+blank-lawful p b e =
+    record { sound = sound-initial p (accepted-plan p (start-plan p b e)); is-good = start-good p b e; crossed-bad = λ i l q. absurd-bool q refl }
+
+-- ---- all calls
+
+all-calls : (p : Plan) → planRefusal p ≡ 0 → (k : Book) → Lawful p k → (cs : List Call) → calledAll p (bookImage p k) cs ≡ told p k cs
+unfolding calledAll told
+all-calls p e k h [] = refl
+all-calls p e k h (c ∷ cs) =
+    rw (one-call p e k h c) (ap (outcome (turn p k c .answer) (bookImage p (turn p k c .book)) ∷_) (all-calls p e (turn p k c .book) (turn-lawful p e k h c) cs))
+
+pub demand3 : (p : Plan) (b : Image) → start p b .answer .kind ≡ 0 → (cs : List Call) → session p b cs ≡ bookSession p cs
+unfolding session bookSession
+demand3 p b e cs = rw (start-is p b e) (ap (outcome accepted (bookImage p blank) ∷_) (all-calls p (start-plan p b e) blank (blank-lawful p b e) cs))

@@ -1,0 +1,12 @@
+pub mod AcceptedPlan
+pub mod Basics
+pub mod BookStep
+pub mod CasesHold
+pub mod Demand3
+pub mod Evaluator
+pub mod Images
+pub mod Masks
+pub mod Meaning
+pub mod Refusing
+pub mod Sound
+pub mod Spans

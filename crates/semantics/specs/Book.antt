@@ -1,0 +1,100 @@
+-- The book, 01 "The book of demand 3": what each call has to answer and leave, told from the plan and the calls alone. It is fed no
+-- answers and no image, and uses none of the definitions of the calls.
+use Prim.Native.Nat.{ℕ, zero, suc}
+use mathlib.Core.Bool.{Bool, false, not, cond, _||_}
+use mathlib.Core.List.{List, [], _∷_, _++_}
+use lib.Dec.{ltb, eqb}
+use Rattle.semantics.specs.Bytes.{allOf, some-below, lowest, mask}
+use Rattle.semantics.specs.Plan.{Plan, interactions}
+use Rattle.semantics.specs.Refusal.{rule, refusal}
+use Rattle.semantics.specs.Move.{Configuration, enabled, outranked, eligible, after, good, initial}
+use Rattle.semantics.specs.Image.{Image, image}
+use Rattle.semantics.specs.Calls.{Answer, accepted, offers, committed, cancelled, stalled, penned, refused, Outcome, outcome, Call, offered, try, settle}
+
+-- "It holds a list of moves done and a set of moves crossed off".
+pub record Book : Type 0 where
+  pub done : List ℕ
+  pub crossed : ℕ → Bool
+
+-- "both empty after start".
+abbrev pub blank : Book
+blank = record { done = []; crossed = λ i. false }
+
+-- The configuration after the listed moves in turn.
+unfoldable pub replay : Plan → Configuration → List ℕ → Configuration
+replay p c [] = c
+replay p c (i ∷ is) = replay p (after p c i) is
+
+-- "Its lane, oracle state included, is the starting state, its event read, after the listed moves in turn."
+unfoldable pub lane : Plan → Book → Configuration
+lane p k = replay p (initial p) (k .done)
+
+-- "Its image is its lane with the set as marks".
+unfoldable pub bookImage : Plan → Book → Image
+bookImage p k = image p (lane p k) (mask (interactions p) (k .crossed))
+
+-- A move is listed and the set emptied.
+abbrev pub listed : Book → ℕ → Book
+listed k i = record { done = k .done ++ (i ∷ []); crossed = λ j. false }
+
+-- The moves of a set are crossed off.
+abbrev pub crossedOff : Book → (ℕ → Bool) → Book
+crossedOff k set = record { done = k .done; crossed = λ j. k .crossed j || set j }
+
+-- What the book answers, and the book afterwards.
+pub record Entry : Type 0 where
+  pub answer : Answer
+  pub book : Book
+
+abbrev pub entry : Answer → Book → Entry
+entry a k = record { answer = a; book = k }
+
+-- "Offered changes nothing."
+unfoldable pub bookOffered : Plan → Book → Entry
+bookOffered p k = entry (offers (mask (interactions p) (λ i. allOf (eligible p (lane p k .state) i ∷ not (k .crossed i) ∷ [])))) k
+
+-- The first of 16, 17, 18 and 19 that applies to a try, 0 where none does: "crossed off stands for marked".
+unfoldable pub bookRefusal : Plan → Book → ℕ → ℕ
+bookRefusal p k i =
+    refusal (rule 16 (ltb i (interactions p)) ∷ rule 17 (enabled p (lane p k .state) i) ∷ rule 18 (not (outranked p (lane p k .state) i))
+    ∷ rule 19 (not (k .crossed i)) ∷ [])
+
+-- "A try to which 16, 17, 18 or 19 applies changes nothing. Else a good move is listed and the set emptied, and any other is crossed off."
+unfoldable pub bookTried : Plan → Book → ℕ → Entry
+bookTried p k i = cond (good p (after p (lane p k) i)) (entry (committed i) (listed k i)) (entry (cancelled i) (crossedOff k (λ j. eqb j i)))
+
+unfoldable pub unlessWrong : ℕ → Book → Entry → Entry
+unlessWrong zero k e = e
+unlessWrong (suc n) k e = entry (refused (suc n)) k
+
+-- The lowest-numbered enabled, unoutranked move that ends good on the book's lane, or I where there is none.
+unfoldable pub bookSafe : Plan → Book → ℕ
+bookSafe p k = lowest (interactions p) (λ i. allOf (eligible p (lane p k .state) i ∷ good p (after p (lane p k) i) ∷ []))
+
+-- "A settling that commits lists its move and empties the set. Stalled changes nothing. Penned crosses off every enabled,
+-- unoutranked move."
+unfoldable pub bookSettled : Plan → Book → Entry
+bookSettled p k =
+    let i = bookSafe p k in
+    cond (ltb i (interactions p)) (entry (committed i) (listed k i))
+    (cond (some-below (interactions p) (enabled p (lane p k .state))) (entry penned (crossedOff k (eligible p (lane p k .state)))) (entry stalled k))
+
+-- The book's answer to one call.
+unfoldable pub turn : Plan → Book → Call → Entry
+turn p k offered = bookOffered p k
+turn p k (try i) = unlessWrong (bookRefusal p k i) k (bookTried p k i)
+turn p k settle = bookSettled p k
+
+-- What the book says of a sequence of calls: each answer, and its image then.
+unfoldable pub told : Plan → Book → List Call → List Outcome
+told p k [] = []
+told p k (c ∷ cs) = outcome (turn p k c .answer) (bookImage p (turn p k c .book)) ∷ told p (turn p k c .book) cs
+
+-- The book after a sequence of calls.
+unfoldable pub kept : Plan → Book → List Call → Book
+kept p k [] = k
+kept p k (c ∷ cs) = kept p (turn p k c .book) cs
+
+-- The same after an accepted start, with the start's own answer and image first.
+unfoldable pub bookSession : Plan → List Call → List Outcome
+bookSession p cs = outcome accepted (bookImage p blank) ∷ told p blank cs

@@ -1,0 +1,87 @@
+-- The image, 01 "The image, 312 bytes": written, read back, and the keeper's refusals 11 to 14.
+use Prim.Native.Nat.{ℕ, suc, _+_, _*_}
+use mathlib.Core.Bool.{Bool, not, cond, _||_}
+use mathlib.Core.List.{List, [], _∷_, _++_}
+use lib.ListN.{length, getD, take, drop}
+use lib.Dec.{ltb, eqb}
+use lib.IntN.{ℤ, pos}
+use Rattle.semantics.specs.Bytes.{byte, u32, u64, leBytes, allOf, implies, every, table, bit}
+use Rattle.semantics.specs.Signed.{signed, residue, equalZ}
+use Rattle.semantics.specs.Plan.{Plan, maxComponents, maxVariables, maxInteractions, noPort, components, variables, interactions, oracleStates, locations, ports}
+use Rattle.semantics.specs.Code.{State}
+use Rattle.semantics.specs.Refusal.{Rule, rule}
+use Rattle.semantics.specs.Move.{Configuration, eligible, after, good}
+
+abbrev pub Image : Type 0
+Image = List ℕ
+
+-- "0–3 the letters YARD; 4 form, 1; 5 C; 6 V; 7 I; 8 oracle state; 9–11 zero; 12–15 plan number".
+unfoldable pub head : Plan → ℕ → List ℕ
+head p q =
+    89 ∷ 65 ∷ 82 ∷ 68 ∷ 1 ∷ components p ∷ variables p ∷ interactions p ∷ q ∷ 0 ∷ 0 ∷ 0 ∷ byte p 4 ∷ byte p 5 ∷ byte p 6 ∷ byte p 7 ∷ []
+
+unfoldable pub valueBytes : List ℤ → List ℕ
+valueBytes [] = []
+valueBytes (v ∷ vs) = leBytes 4 (residue v) ++ valueBytes vs
+
+-- ".. 16–23 marks; 24–39 locations; 40–55 last ports (255 none yet); 56–311 values." The marks (002's disabler) are a number with
+-- bit i for interaction i.
+unfoldable pub image : Plan → Configuration → ℕ → Image
+image p c m = head p (c .oracle) ++ leBytes 8 m ++ c .state .locations ++ c .state .lastPorts ++ valueBytes (c .state .values)
+
+-- "Its mark is set and no other byte differs": the image with other marks.
+unfoldable pub withMarks : Image → ℕ → Image
+withMarks b m = take 16 b ++ leBytes 8 m ++ drop 24 b
+
+-- What an image holds.
+unfoldable pub marksOf : Image → ℕ
+marksOf b = u64 b 16
+
+unfoldable pub configurationOf : Image → Configuration
+configurationOf b =
+    record {
+      state =
+          record {
+            locations = take maxComponents (drop 24 b);
+            lastPorts = take maxComponents (drop 40 b);
+            values = table maxVariables (λ v. signed (u32 b (56 + 4 * v)));
+          };
+      oracle = byte b 8;
+    }
+
+-- 12: "bytes 0–7 or 9–15 do not match form 1 and the plan".
+unfoldable pub headMatches : Plan → Image → Bool
+headMatches p b = every 16 (λ k. eqb k 8 || eqb (byte b k) (byte (head p 0) k))
+
+-- 13: "a location or last port out of range, an unused entry filled".
+unfoldable pub locationOk : Plan → State → ℕ → Bool
+locationOk p s c = cond (ltb c (components p)) (ltb (getD (s .locations) c 0) (locations p c)) (eqb (getD (s .locations) c 0) 0)
+
+unfoldable pub lastPortOk : Plan → State → ℕ → Bool
+lastPortOk p s c =
+    cond (ltb c (components p)) (eqb (getD (s .lastPorts) c 0) noPort || ltb (getD (s .lastPorts) c 0) (ports p c)) (eqb (getD (s .lastPorts) c 0) noPort)
+
+unfoldable pub valueOk : Plan → State → ℕ → Bool
+valueOk p s v = ltb v (variables p) || equalZ (getD (s .values) v (pos 0)) (pos 0)
+
+-- 13: "oracle state at or above S or bad" too.
+unfoldable pub configurationOk : Plan → Configuration → Bool
+configurationOk p c =
+    allOf (ltb (c .oracle) (oracleStates p) ∷ good p c ∷ every maxComponents (locationOk p (c .state)) ∷ every maxComponents (lastPortOk p (c .state))
+    ∷ every maxVariables (valueOk p (c .state)) ∷ [])
+
+-- 14: "a mark at or above I, or on an interaction that is not enabled, is outranked, or would end in a good state".
+unfoldable pub markOk : Plan → Configuration → ℕ → Bool
+markOk p c i = allOf (ltb i (interactions p) ∷ eligible p (c .state) i ∷ not (good p (after p c i)) ∷ [])
+
+unfoldable pub marksOk : Plan → Configuration → ℕ → Bool
+marksOk p c m = every maxInteractions (λ i. implies (bit m i) (markOk p c i))
+
+-- 11: "the image slice is not 312 bytes".
+unfoldable pub lengthRule : Image → Rule
+lengthRule b = rule 11 (eqb (length b) 312)
+
+-- 01, "The caller's programmer" and "The keeper of the image": 11 to 14, in order.
+unfoldable pub imageRules : Plan → Image → List Rule
+imageRules p b =
+    lengthRule b ∷ rule 12 (headMatches p b) ∷ rule 13 (configurationOk p (configurationOf b)) ∷ rule 14 (marksOk p (configurationOf b) (marksOf b)) ∷ []

@@ -1,0 +1,13 @@
+pub mod Book
+pub mod Bytes
+pub mod Calls
+pub mod Cases
+pub mod Code
+pub mod Image
+pub mod Move
+pub mod Plan
+pub mod Refusal
+pub mod Rules
+pub mod Run
+pub mod Sample
+pub mod Signed

@@ -1,0 +1,86 @@
+-- One move, 01 "One move": enabled, outranked, the state after a move, its event and the oracle's verdict.
+use Prim.Native.Nat.{ℕ, zero, suc, _+_}
+use mathlib.Core.Bool.{Bool, true, false, not, cond, _&&_}
+use mathlib.Core.List.{List, [], _∷_}
+use lib.ListN.{getD}
+use lib.Dec.{ltb, eqb}
+use lib.IntN.{pos}
+use Rattle.semantics.specs.Bytes.{allOf, implies, every, some-below, lowest, table, mask}
+use Rattle.semantics.specs.Plan.{Plan, maxComponents, maxVariables, noPort, components, variables, transitions, interactions, propositions, firstOracle, startLocation, startValue, componentOf, source, portOf, destination, guardOf, actionOf, portIn, takesPart, interactionGuard, transferOf, below, propositionOf, verdict, next}
+use Rattle.semantics.specs.Code.{State, guardHolds, acted}
+
+-- A configuration (01's lane): the components' state and the oracle's.
+pub record Configuration : Type 0 where
+  pub state : State
+  pub oracle : ℕ
+
+-- Transition t of component c leaves its location through port q, and its guard holds.
+unfoldable pub ready : Plan → State → ℕ → ℕ → ℕ → Bool
+ready p s c q t =
+    allOf (eqb (componentOf p t) c ∷ eqb (source p t) (getD (s .locations) c 0) ∷ eqb (portOf p t) q ∷ guardHolds p s (guardOf p t) ∷ [])
+
+-- "The lowest-numbered such transition is used." The number of transitions where there is none.
+unfoldable pub chosen : Plan → State → ℕ → ℕ → ℕ
+chosen p s c q = lowest (transitions p) (ready p s c q)
+
+-- The transition that component c, taking part, uses in interaction i.
+unfoldable pub used : Plan → State → ℕ → ℕ → ℕ
+used p s i c = chosen p s c (portIn p i c)
+
+-- "An interaction is enabled when its guard holds and each component taking part has, at its location and that port, a
+-- transition whose guard holds."
+unfoldable pub enabled : Plan → State → ℕ → Bool
+enabled p s i =
+    allOf (guardHolds p s (interactionGuard p i) ∷ every (components p) (λ c. implies (takesPart p i c) (ltb (used p s i c) (transitions p))) ∷ [])
+
+-- "It is outranked when an enabled interaction lies above it, marked or not."
+unfoldable pub outranked : Plan → State → ℕ → Bool
+outranked p s i = some-below (interactions p) (λ j. below p i j && enabled p s j)
+
+-- Enabled and not outranked: what the priority rule of BIP lets pass.
+unfoldable pub eligible : Plan → State → ℕ → Bool
+eligible p s i = allOf (enabled p s i ∷ not (outranked p s i) ∷ [])
+
+-- "All guards read the old state. Then come the transfer, each action word by word": the transfer, then the actions of the
+-- components below n that take part. The transitions are those that the state s, before the move, chose.
+unfoldable pub actedBelow : Plan → State → ℕ → ℕ → State
+actedBelow p s i zero = acted p s (transferOf p i)
+actedBelow p s i (suc n) = let r = actedBelow p s i n in cond (takesPart p i n) (acted p r (actionOf p (used p s i n))) r
+
+-- ".. the destinations and the last ports. A component that takes no part keeps its last port", and its location.
+unfoldable pub fired : Plan → State → ℕ → State
+fired p s i =
+    record {
+      locations = table maxComponents (λ c. cond (takesPart p i c) (destination p (used p s i c)) (getD (s .locations) c 0));
+      lastPorts = table maxComponents (λ c. cond (takesPart p i c) (portIn p i c) (getD (s .lastPorts) c 0));
+      values = actedBelow p s i (components p) .values;
+    }
+
+-- "The event's letter is the sum of 2^k over true propositions k of the new state."
+unfoldable pub letter : Plan → State → ℕ
+letter p s = mask (propositions p) (λ k. guardHolds p s (propositionOf p k))
+
+-- The configuration when the oracle in state q has read the event of the state s.
+unfoldable pub judged : Plan → ℕ → State → Configuration
+judged p q s = record { state = s; oracle = next p q (letter p s) }
+
+-- The configuration after interaction i: the new state, its event read.
+unfoldable pub after : Plan → Configuration → ℕ → Configuration
+after p c i = judged p (c .oracle) (fired p (c .state) i)
+
+-- "A state is good when the oracle's new verdict is not 0."
+unfoldable pub good : Plan → Configuration → Bool
+good p c = not (eqb (verdict p (c .oracle)) 0)
+
+-- Each component at its starting location, no last port yet, each variable at its starting value; unused entries as the image has them.
+unfoldable pub initialState : Plan → State
+initialState p =
+    record {
+      locations = table maxComponents (λ c. cond (ltb c (components p)) (startLocation p c) 0);
+      lastPorts = table maxComponents (λ c. noPort);
+      values = table maxVariables (λ v. cond (ltb v (variables p)) (startValue p v) (pos 0));
+    }
+
+-- "The oracle also reads the starting state's event (000), so a run begins judged."
+unfoldable pub initial : Plan → Configuration
+initial p = judged p (firstOracle p) (initialState p)

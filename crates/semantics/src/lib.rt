@@ -1,0 +1,1 @@
+// Definitions and theorems alone: what the yard move supervisor means (specs/) and what follows from it (proofs/).
