@@ -63,11 +63,11 @@ module _ (p : Plan) (e : planRefusal p ≡ 0) where
 
   module _ (k : Book) (h : Lawful p k) where
     -- the book's image holds its lane, and its set as marks
-    held-lane : configurationOf (bookImage p k) ≡ lane p k
+    pub held-lane : configurationOf (bookImage p k) ≡ lane p k
     unfolding bookImage
     held-lane = configuration-back p (lane p k) (mask (interactions p) (k .crossed)) (shaped p (lane p k) (h .sound))
 
-    held-marks : marksOf (bookImage p k) ≡ mask (interactions p) (k .crossed)
+    pub held-marks : marksOf (bookImage p k) ≡ mask (interactions p) (k .crossed)
     unfolding bookImage
     held-marks = marks-back p (lane p k) (mask (interactions p) (k .crossed)) (small (k .crossed))
 
@@ -76,10 +76,10 @@ module _ (p : Plan) (e : planRefusal p ≡ 0) where
     unfolding marksOk
     marks-lawful =
         every-all 64 (λ i. implies (bit (mask (interactions p) (k .crossed)) i) (markOk p (lane p k) i))
-          (λ i l. implies-yes (bit (mask (interactions p) (k .crossed)) i) (markOk p (lane p k) i)
-            (λ b. bool-cases (ltb i (interactions p))
-              (λ t. h .crossed-bad i (ltb-true i (interactions p) t) (sym (bit-mask (interactions p) (k .crossed) i (ltb-true i (interactions p) t)) ∙ b))
-              (λ t. absurd-bool b (bit-mask-over (interactions p) (k .crossed) i (ltb-false i (interactions p) t)))))
+        (λ i l. implies-yes (bit (mask (interactions p) (k .crossed)) i) (markOk p (lane p k) i)
+        (λ b. bool-cases (ltb i (interactions p))
+        (λ t. h .crossed-bad i (ltb-true i (interactions p) t) (sym (bit-mask (interactions p) (k .crossed) i (ltb-true i (interactions p) t)) ∙ b))
+        (λ t. absurd-bool b (bit-mask-over (interactions p) (k .crossed) i (ltb-false i (interactions p) t)))))
 
     -- 11 to 14 do not apply
     image-kept : Each (tests (imageRules p (bookImage p k)))
@@ -89,6 +89,7 @@ module _ (p : Plan) (e : planRefusal p ≡ 0) where
       where
         image-long : length (bookImage p k) ≡ 312
         image-long = unfold bookImage in length-image p (lane p k) (mask (interactions p) (k .crossed)) (shaped p (lane p k) (h .sound))
+
         matches : headMatches p (bookImage p k) ≡ true
         matches = unfold bookImage in head-matches p (lane p k) (mask (interactions p) (k .crossed))
 
@@ -105,23 +106,23 @@ module _ (p : Plan) (e : planRefusal p ≡ 0) where
     unfolding clerkRules bookRefusal refusal unless
     clerk-same i =
         bool-cases (ltb i (interactions p)) (λ t. rw (held-lane, mark-is i (ltb-true i (interactions p) t)))
-          (λ t. rw t)
+        (λ t. rw t)
 
     offered-same : offeredMask p (bookImage p k) ≡ bookOffered p k .answer .bits
     unfolding offeredMask bookOffered
     offered-same =
         mask-same (interactions p) (λ i. allOf (eligible p (lane p k .state) i ∷ not (k .crossed i) ∷ []))
-          (λ i. allOf (eligible p (configurationOf (bookImage p k) .state) i ∷ not (bit (marksOf (bookImage p k)) i) ∷ []))
-          (λ i l. ap₂ (λ (c : Configuration) (b : Bool). allOf (eligible p (c .state) i ∷ not b ∷ [])) held-lane (mark-is i l))
+        (λ i. allOf (eligible p (configurationOf (bookImage p k) .state) i ∷ not (bit (marksOf (bookImage p k)) i) ∷ []))
+        (λ i l. ap₂ (λ (c : Configuration) (b : Bool). allOf (eligible p (c .state) i ∷ not b ∷ [])) held-lane (mark-is i l))
 
     -- the mark of move i set beside the others
     bit-set : (i : ℕ) → i < interactions p → withBit (mask (interactions p) (k .crossed)) i ≡ mask (interactions p) (crossedOff k (λ j. eqb j i) .crossed)
     unfolding withBit here
     bit-set i l =
         mask-wider (interactions p) 64 (λ j. k .crossed j || eqb j i) (λ j. bit (mask (interactions p) (k .crossed)) j || eqb j i)
-          (counts-of p (here .counts) .interactions≤)
-          (λ j m. ap (λ (b : Bool). b || eqb j i) (bit-mask (interactions p) (k .crossed) j m))
-          (λ j m n. rw (bit-mask-over (interactions p) (k .crossed) j m) (ne-eqb j i (λ q. other j q m)))
+        (counts-of p (here .counts) .interactions≤)
+        (λ j m. ap (λ (b : Bool). b || eqb j i) (bit-mask (interactions p) (k .crossed) j m))
+        (λ j m n. rw (bit-mask-over (interactions p) (k .crossed) j m) (ne-eqb j i (λ q. other j q m)))
       where
         other : (j : ℕ) → j ≡ i → interactions p ≤ j → ⊥
         other j q m = omega arith
@@ -134,8 +135,8 @@ module _ (p : Plan) (e : planRefusal p ≡ 0) where
     unfolding tried bookTried
     tried-same i l =
         rw (held-lane, held-marks, bit-set i l)
-          (bool-cases (good p (after p (lane p k) i)) (λ t. rw t (ap (outcome (committed i)) (image-listed p k i)))
-            (λ t. rw t (ap (outcome (cancelled i)) (marked ∙ image-crossed (λ j. eqb j i)))))
+        (bool-cases (good p (after p (lane p k) i)) (λ t. rw t (ap (outcome (committed i)) (image-listed p k i)))
+        (λ t. rw t (ap (outcome (cancelled i)) (marked ∙ image-crossed (λ j. eqb j i)))))
       where
         marked : withMarks (bookImage p k) (mask (interactions p) (crossedOff k (λ j. eqb j i) .crossed))
             ≡ image p (lane p k) (mask (interactions p) (crossedOff k (λ j. eqb j i) .crossed))
@@ -150,17 +151,17 @@ module _ (p : Plan) (e : planRefusal p ≡ 0) where
     unfolding markOk
     all-crossed =
         mask-same (interactions p) (λ j. k .crossed j || eligible p (lane p k .state) j) (eligible p (lane p k .state))
-          (λ j l. same-test (eligible p (lane p k .state) j) (k .crossed j || eligible p (lane p k .state) j)
-            (or-right (k .crossed j) (eligible p (lane p k .state) j))
-            (λ t. or-cases (k .crossed j) (eligible p (lane p k .state) j) t (λ b. each _ (h .crossed-bad j l b) .1 .0) (λ b. b)))
+        (λ j l. same-test (eligible p (lane p k .state) j) (k .crossed j || eligible p (lane p k .state) j)
+        (or-right (k .crossed j) (eligible p (lane p k .state) j))
+        (λ t. or-cases (k .crossed j) (eligible p (lane p k .state) j) t (λ b. each _ (h .crossed-bad j l b) .1 .0) (λ b. b)))
 
     settled-same : settled p (bookImage p k) ≡ outcome (bookSettled p k .answer) (bookImage p (bookSettled p k .book))
     unfolding settled bookSettled
     settled-same =
         rw (held-lane, safe-same, all-crossed)
-          (bool-cases (ltb (bookSafe p k) (interactions p)) (λ t. rw t (ap (outcome (committed (bookSafe p k))) (image-listed p k (bookSafe p k))))
-            (λ t. bool-cases (some-below (interactions p) (enabled p (lane p k .state)))
-              (λ u. rw (t, u) (ap (outcome penned) (marked ∙ image-crossed (eligible p (lane p k .state))))) (λ u. rw (t, u) refl)))
+        (bool-cases (ltb (bookSafe p k) (interactions p)) (λ t. rw t (ap (outcome (committed (bookSafe p k))) (image-listed p k (bookSafe p k))))
+        (λ t. bool-cases (some-below (interactions p) (enabled p (lane p k .state)))
+        (λ u. rw (t, u) (ap (outcome penned) (marked ∙ image-crossed (eligible p (lane p k .state))))) (λ u. rw (t, u) refl)))
       where
         marked : withMarks (bookImage p k) (mask (interactions p) (crossedOff k (eligible p (lane p k .state)) .crossed))
             ≡ image p (lane p k) (mask (interactions p) (crossedOff k (eligible p (lane p k .state)) .crossed))
@@ -192,7 +193,7 @@ module _ (p : Plan) (e : planRefusal p ≡ 0) where
 
     tried-unless : (i n : ℕ) → bookRefusal p k i ≡ n
         → unlessRefused n (bookImage p k) (tried p (bookImage p k) i)
-          ≡ outcome (unlessWrong n k (bookTried p k i) .answer) (bookImage p (unlessWrong n k (bookTried p k i) .book))
+        ≡ outcome (unlessWrong n k (bookTried p k i) .answer) (bookImage p (unlessWrong n k (bookTried p k i) .book))
     unfolding unlessRefused unlessWrong
     tried-unless i zero r = tried-same i (allowed-try i r .number<)
     tried-unless i (suc n) r = refl
@@ -209,28 +210,28 @@ module _ (p : Plan) (e : planRefusal p ≡ 0) where
     pub listed-lawful : (i : ℕ) → i < interactions p → eligible p (lane p k .state) i ≡ true → good p (after p (lane p k) i) ≡ true → Lawful p (listed k i)
     unfolding eligible here
     listed-lawful i l m g =
-        record
-          { sound = rw (lane-listed p k i) (sound-after p here (lane p k) (h .sound) i l (each _ m .0))
-          ; is-good = rw (lane-listed p k i) g
-          ; crossed-bad = λ j n b. absurd-bool b refl
-          }
+        record {
+          sound = rw (lane-listed p k i) (sound-after p here (lane p k) (h .sound) i l (each _ m .0));
+          is-good = rw (lane-listed p k i) g;
+          crossed-bad = λ j n b. absurd-bool b refl;
+        }
 
     -- moves that may be marked are crossed off
     crossed-lawful : (f : ℕ → Bool) → ((i : ℕ) → i < interactions p → f i ≡ true → markOk p (lane p k) i ≡ true) → Lawful p (crossedOff k f)
     unfolding lane
     crossed-lawful f bad =
-        record
-          { sound = h .sound
-          ; is-good = h .is-good
-          ; crossed-bad = λ i l b. or-cases (k .crossed i) (f i) b (h .crossed-bad i l) (bad i l)
-          }
+        record {
+          sound = h .sound;
+          is-good = h .is-good;
+          crossed-bad = λ i l b. or-cases (k .crossed i) (f i) b (h .crossed-bad i l) (bad i l);
+        }
 
     tried-lawful : (i : ℕ) → Allowed i → Lawful p (bookTried p k i .book)
     unfolding bookTried markOk
     tried-lawful i a =
         bool-cases (good p (after p (lane p k) i)) (λ t. rw t (listed-lawful i (a .number<) (a .is-eligible) t))
-          (λ t. rw t (crossed-lawful (λ j. eqb j i)
-            (λ j l b. rw (eqb-true j i b) (all-of _ (lt-ltb i (interactions p) (a .number<), (a .is-eligible, (rw t refl, tt)))))))
+        (λ t. rw t (crossed-lawful (λ j. eqb j i)
+        (λ j l b. rw (eqb-true j i b) (all-of _ (lt-ltb i (interactions p) (a .number<), (a .is-eligible, (rw t refl, tt)))))))
 
     wrong-lawful : (i n : ℕ) → bookRefusal p k i ≡ n → Lawful p (unlessWrong n k (bookTried p k i) .book)
     unfolding unlessWrong
@@ -242,14 +243,14 @@ module _ (p : Plan) (e : planRefusal p ≡ 0) where
     settled-lawful =
         let f : ℕ → Bool = λ i. allOf (eligible p (lane p k .state) i ∷ good p (after p (lane p k) i) ∷ []) in
         bool-cases (ltb (bookSafe p k) (interactions p))
-          (λ t.
-            let l : bookSafe p k < interactions p = ltb-true _ _ t in
-            let q = each _ (lowest-is (interactions p) f .hit l) in
-            rw t (listed-lawful (bookSafe p k) l (q .0) (q .1 .0)))
-          (λ t. bool-cases (some-below (interactions p) (enabled p (lane p k .state)))
-            (λ u. rw (t, u) (crossed-lawful (eligible p (lane p k .state))
-              (λ i l b. all-of _ (lt-ltb i (interactions p) l, (b, (no-good i l b t, tt))))))
-            (λ u. rw (t, u) h))
+        (λ t.
+        let l : bookSafe p k < interactions p = ltb-true _ _ t in
+        let q = each _ (lowest-is (interactions p) f .hit l) in
+        rw t (listed-lawful (bookSafe p k) l (q .0) (q .1 .0)))
+        (λ t. bool-cases (some-below (interactions p) (enabled p (lane p k .state)))
+        (λ u. rw (t, u) (crossed-lawful (eligible p (lane p k .state))
+        (λ i l b. all-of _ (lt-ltb i (interactions p) l, (b, (no-good i l b t, tt))))))
+        (λ u. rw (t, u) h))
       where
         no-good : (i : ℕ) → i < interactions p → eligible p (lane p k .state) i ≡ true
             → ltb (lowest (interactions p) (λ j. allOf (eligible p (lane p k .state) j ∷ good p (after p (lane p k) j) ∷ []))) (interactions p) ≡ false
@@ -257,8 +258,8 @@ module _ (p : Plan) (e : planRefusal p ≡ 0) where
         no-good i l b t =
             let f : ℕ → Bool = λ j. allOf (eligible p (lane p k .state) j ∷ good p (after p (lane p k) j) ∷ []) in
             bool-cases (good p (after p (lane p k) i))
-              (λ g. absurd-bool (all-of (eligible p (lane p k .state) i ∷ good p (after p (lane p k) i) ∷ []) (b, (g, tt))) (lowest-none (interactions p) f t i l))
-              (λ g. rw g refl)
+            (λ g. absurd-bool (all-of (eligible p (lane p k .state) i ∷ good p (after p (lane p k) i) ∷ []) (b, (g, tt))) (lowest-none (interactions p) f t i l))
+            (λ g. rw g refl)
 
     pub turn-lawful : (c : Call) → Lawful p (turn p k c .book)
     unfolding turn bookOffered

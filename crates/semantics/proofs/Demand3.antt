@@ -20,30 +20,34 @@ use Rattle.semantics.proofs.BookStep.{Lawful, one-call, turn-lawful}
 
 -- ---- an accepted start
 
+-- 01's accepted start
+abbrev pub Starts : Plan → Image → Type 0
+Starts p b = start p b .answer ≡ accepted
+
 -- the kind of a refusal is not 0
 not-refused : (n : ℕ) (b : Image) (o : Outcome) → unlessRefused n b o .answer .kind ≡ 0 → n ≡ 0
 unfolding unlessRefused
 not-refused zero b o e = refl
 not-refused (suc n) b o e = let q : _≡_ {A = ℕ} 5 0 = e in omega arith
 
-pub start-rules : (p : Plan) (b : Image) → start p b .answer .kind ≡ 0 → refusal (startRules p b) ≡ 0
+pub start-rules : (p : Plan) (b : Image) → Starts p b → refusal (startRules p b) ≡ 0
 unfolding start
-start-rules p b e = not-refused (refusal (startRules p b)) b _ e
+start-rules p b e = not-refused (refusal (startRules p b)) b _ (ap (λ (a : Answer). a .kind) e)
 
-pub start-plan : (p : Plan) (b : Image) → start p b .answer .kind ≡ 0 → planRefusal p ≡ 0
+pub start-plan : (p : Plan) (b : Image) → Starts p b → planRefusal p ≡ 0
 unfolding planRefusal startRules
 start-plan p b e = refusal-before (planRules p) _ (start-rules p b e) (plan-numbered p)
 
-pub start-good : (p : Plan) (b : Image) → start p b .answer .kind ≡ 0 → good p (initial p) ≡ true
+pub start-good : (p : Plan) (b : Image) → Starts p b → good p (initial p) ≡ true
 unfolding startRules numbered planRules lengthRule
 start-good p b e = none-refused (startRules p b) refl (start-rules p b e) .1 .1 .1 .1 .1 .1 .1 .1 .1 .1 .1 .0
 
 -- it answers accepted and leaves the book's first image
-pub start-is : (p : Plan) (b : Image) → start p b .answer .kind ≡ 0 → start p b ≡ outcome accepted (bookImage p blank)
+pub start-is : (p : Plan) (b : Image) → Starts p b → start p b ≡ outcome accepted (bookImage p blank)
 unfolding start unlessRefused bookImage lane replay
 start-is p b e = rw (start-rules p b e) (ap (λ (m : ℕ). outcome accepted (image p (initial p) m)) (sym (mask-none _)))
 
-pub blank-lawful : (p : Plan) (b : Image) → start p b .answer .kind ≡ 0 → Lawful p blank
+pub blank-lawful : (p : Plan) (b : Image) → Starts p b → Lawful p blank
 unfolding lane replay
 blank-lawful p b e =
     record { sound = sound-initial p (accepted-plan p (start-plan p b e)); is-good = start-good p b e; crossed-bad = λ i l q. absurd-bool q refl }
@@ -56,6 +60,13 @@ all-calls p e k h [] = refl
 all-calls p e k h (c ∷ cs) =
     rw (one-call p e k h c) (ap (outcome (turn p k c .answer) (bookImage p (turn p k c .book)) ∷_) (all-calls p e (turn p k c .book) (turn-lawful p e k h c) cs))
 
-pub demand3 : (p : Plan) (b : Image) → start p b .answer .kind ≡ 0 → (cs : List Call) → session p b cs ≡ bookSession p cs
+pub demand3 : (p : Plan) (b : Image) → Starts p b → (cs : List Call) → session p b cs ≡ bookSession p cs
 unfolding session bookSession
 demand3 p b e cs = rw (start-is p b e) (ap (outcome accepted (bookImage p blank) ∷_) (all-calls p (start-plan p b e) blank (blank-lawful p b e) cs))
+
+-- ---- the same said of what the calls leave
+
+-- the outcomes of a sequence of calls are the book's
+pub calls-told : (p : Plan) (b : Image) → Starts p b → (cs : List Call) → calledAll p (start p b .image) cs ≡ told p blank cs
+calls-told p b e cs =
+    ap (λ (o : Outcome). calledAll p (o .image) cs) (start-is p b e) ∙ all-calls p (start-plan p b e) blank (blank-lawful p b e) cs

@@ -1,25 +1,25 @@
 -- The evaluator stays inside its room: in a span that keeps the rules the stack is never deeper than 8, no word lacks what it pops,
 -- and every value, on the stack and in the variables, is a signed 32-bit number.
-use mathlib.Core.Path.{_≡_, refl, sym, ap, _∙_, subst}
+use mathlib.Core.Path.{_≡_, sym, ap, _∙_, subst}
 use Prim.Native.Nat.{ℕ, zero, suc, _+_, _-_, _/_, _%_, _≤_, _<_}
 use native.Mathlib.Omega.{arith}
-use mathlib.Core.Bool.{Bool, true, false, not, cond}
+use mathlib.Core.Bool.{Bool, true, false, cond}
 use mathlib.Core.List.{List, [], _∷_}
-use mathlib.Core.Option.{Option, some}
 use lib.ListN.{length, getD, set, drop}
 use lib.Seq.{getD-drop}
 use lib.Dec.{ltb}
 use lib.IntN.{ℤ, pos, negsuc}
 use Rattle.semantics.specs.Plan.{Plan, Span, variables, transitions, interactions, propositions, guardOf, actionOf, interactionGuard, transferOf, propositionOf, componentOf, word}
 use Rattle.semantics.specs.Signed.{signed, residue, wrap, add, subtract, extend, truth}
-use Rattle.semantics.specs.Code.{State, Instruction, push, extendTop, load, store, located, lastPort, operator, unknown, instruction, decode, operate, operatorPops, Machine, perform, ran, acted, Role, asGuard, asUpdate, asProposition, ownedBy, sharedIn, declared, pops, depth, finalDepth, spanOk}
+use Rattle.semantics.specs.Code.{State, Instruction, push, extendTop, load, store, located, lastPort, operator, unknown, instruction, decode, operate, operatorPops, Machine, perform, ran, acted, Role, asGuard, asUpdate, asProposition, ownedBy, sharedIn, declared, pops, finalDepth, spanOk}
 use Rattle.semantics.specs.Rules.{planRefusal}
 use Rattle.semantics.proofs.Basics.{bool-cases, ltb-true, ltb-false, lt-ltb, le-ltb}
-use Rattle.semantics.proofs.AcceptedPlan.{Accepted, accepted-plan, guard-ok, action-ok, interaction-guard-ok, transfer-ok, proposition-ok}
-use Rattle.semantics.proofs.Spans.{Step, Stepped, word-step, depth-before, depth-low, ran-depth, span-end, span-depth, span-step, frame, acted-long}
+use Rattle.semantics.proofs.AcceptedPlan.{accepted-plan, guard-ok, action-ok, interaction-guard-ok, transfer-ok, proposition-ok}
+use Rattle.semantics.proofs.Spans.{word-step, depth-before, depth-low, ran-depth, span-end, span-depth, span-step, frame, acted-long}
 
 -- ---- signed 32-bit numbers
 
+-- what 32 bits denote, in the two halves
 signed-low : (u : ℕ) → u < 2147483648 → signed u ≡ pos u
 unfolding signed
 signed-low u h = ap (λ (b : Bool). cond b (pos u) (negsuc (4294967296 - suc u))) (lt-ltb u 2147483648 h)
@@ -33,7 +33,7 @@ pub low-word : (n : ℕ) → n < 2147483648 → wrap (pos n) ≡ pos n
 unfolding wrap residue
 low-word n h = let e : n % 4294967296 ≡ n = omega arith in ap (λ (x : ℕ). signed x) e ∙ signed-low n h
 
--- so is -(n + 1)
+-- so is -(n + 1), for such an n
 pub high-word : (n : ℕ) → n < 2147483648 → wrap (negsuc n) ≡ negsuc n
 unfolding wrap residue
 high-word n h =
@@ -63,20 +63,23 @@ pub wrap-word : (z : ℤ) → wrap (wrap z) ≡ wrap z
 unfolding wrap
 wrap-word z = signed-word (residue z)
 
+-- the result of a test is a signed 32-bit number
 truth-word : (b : Bool) → wrap (truth b) ≡ truth b
 unfolding truth
 truth-word true = low-word 1 (omega arith)
 truth-word false = low-word 0 (omega arith)
 
--- ---- lists of them
+-- ---- lists of signed 32-bit numbers
 
 -- each number of the list is a signed 32-bit number
 pub record Words (vs : List ℤ) : Type 0 where
   pub word-at : (v : ℕ) → wrap (getD vs v (pos 0)) ≡ getD vs v (pos 0)
 
+-- the empty list is one
 pub no-words : Words []
 no-words = record { word-at = λ v. low-word 0 (omega arith) }
 
+-- a list of them with one more before it is one
 pub one-more-word : {x : ℤ} {xs : List ℤ} → wrap x ≡ x → Words xs → Words (x ∷ xs)
 one-more-word {x} {xs} e w = record { word-at = place }
   where
@@ -84,9 +87,11 @@ one-more-word {x} {xs} e w = record { word-at = place }
     place zero = e
     place (suc v) = w .word-at v
 
+-- so is a list of them without its first n
 fewer-words : (n : ℕ) (xs : List ℤ) → Words xs → Words (drop n xs)
 fewer-words n xs w = record { word-at = λ v. subst (λ (z : ℤ). wrap z ≡ z) (sym (getD-drop n xs v (pos 0))) (w .word-at (n + v)) }
 
+-- and a list of them with one stored in it
 set-word : (xs : List ℤ) (n : ℕ) (x : ℤ) → ((v : ℕ) → wrap (getD xs v (pos 0)) ≡ getD xs v (pos 0)) → wrap x ≡ x
     → (v : ℕ) → wrap (getD (set xs n x) v (pos 0)) ≡ getD (set xs n x) v (pos 0)
 set-word [] n x h e v = h v
@@ -147,6 +152,7 @@ record Sound (m : Machine) : Type 0 where
   on-stack : Words (m .stack)
   in-values : Words (m .values)
 
+-- every word of code keeps that
 perform-sound : (i : Instruction) → Small i → (s : State) (m : Machine) → Sound m → Sound (perform i s m)
 unfolding perform extend
 perform-sound (push n) h s m a = record { on-stack = one-more-word (low-word n (omega arith)) (a .on-stack); in-values = a .in-values }
@@ -194,7 +200,7 @@ pub ends : (p : Plan) (r : Role) (names : ℕ → Bool) (g : Span) (s : State) �
     → length (ran p s (g .start) (g .size) .stack) ≡ finalDepth r
 ends p r names g s h l = ran-depth p r names (g .start) (g .size) (finalDepth r) s (span-end p r names g h l)
 
--- the evaluator is inside its room in every span of the plan, on every state of signed 32-bit numbers
+-- after every word of every span of the plan the evaluator is inside its room, on every state of signed 32-bit numbers
 pub record Roomy (p : Plan) : Type 0 where
   pub guard : (t : ℕ) → t < transitions p → (s : State) → Words (s .values) → (n : ℕ) → n ≤ guardOf p t .size → Inside p s (guardOf p t) n
   pub action : (t : ℕ) → t < transitions p → (s : State) → Words (s .values) → (n : ℕ) → n ≤ actionOf p t .size → Inside p s (actionOf p t) n
@@ -204,6 +210,7 @@ pub record Roomy (p : Plan) : Type 0 where
   pub proposition : (k : ℕ) → k < propositions p → (s : State) → Words (s .values) → (n : ℕ) → n ≤ propositionOf p k .size
       → Inside p s (propositionOf p k) n
 
+-- the evaluator stays inside its room on every accepted plan
 pub evaluator-inside : (p : Plan) → planRefusal p ≡ 0 → Roomy p
 evaluator-inside p e =
     let a = accepted-plan p e in

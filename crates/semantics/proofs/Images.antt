@@ -108,16 +108,16 @@ unfolding image front
 values-back p c m h =
     let f : ℕ → ℤ = λ v. signed (u32 (image p c m) (56 + 4 * v)) in
     ext-getD (pos 0) (table 64 f) (c .state .values) (length-table 64 f ∙ sym (h .values-64))
-      (λ v l.
-        let k : v < 64 = subst (λ (n : ℕ). v < n) (length-table 64 f) l in
-        getD-table 64 f (pos 0) v k
-        ∙ ap signed (u32-past (front p c m) (valueBytes (c .state .values)) 56 (4 * v) (length-front p c m h))
-        ∙ value-at (c .state .values) v (h .words) (subst (λ (n : ℕ). v < n) (sym (h .values-64)) k))
+    (λ v l.
+    let k : v < 64 = subst (λ (n : ℕ). v < n) (length-table 64 f) l in
+    getD-table 64 f (pos 0) v k
+    ∙ ap signed (u32-past (front p c m) (valueBytes (c .state .values)) 56 (4 * v) (length-front p c m h))
+    ∙ value-at (c .state .values) v (h .words) (subst (λ (n : ℕ). v < n) (sym (h .values-64)) k))
 
 pub configuration-back : (p : Plan) (c : Configuration) (m : ℕ) → Shaped (c .state) → configurationOf (image p c m) ≡ c
 unfolding configurationOf image head
 configuration-back p c m h =
-    λ i. record
-      { state = record { locations = locations-back p c m h i; lastPorts = ports-back p c m h i; values = values-back p c m h i }
-      ; oracle = c .oracle
-      }
+    λ i. record {
+      state = record { locations = locations-back p c m h i; lastPorts = ports-back p c m h i; values = values-back p c m h i };
+      oracle = c .oracle;
+    }

@@ -40,8 +40,8 @@ unused-zero : (p : Plan) (c : Configuration) → Sound p c → (v : ℕ) → v <
 unfolding valueOk
 unused-zero p c h v l =
     bool-cases (ltb v (variables p)) (or-left (ltb v (variables p)) (equalZ (getD (c .state .values) v (pos 0)) (pos 0)))
-      (λ e. or-right (ltb v (variables p)) (equalZ (getD (c .state .values) v (pos 0)) (pos 0))
-        (zero-value (getD (c .state .values) v (pos 0)) (h .valued .unused v (ltb-false v (variables p) e))))
+    (λ e. or-right (ltb v (variables p)) (equalZ (getD (c .state .values) v (pos 0)) (pos 0))
+    (zero-value (getD (c .state .values) v (pos 0)) (h .valued .unused v (ltb-false v (variables p) e))))
 
 -- a sound configuration that is good passes 13
 pub configuration-ok : (p : Plan) (c : Configuration) → Sound p c → good p c ≡ true → configurationOk p c ≡ true
@@ -81,14 +81,14 @@ initial-valued p =
     in-or-out v P a b =
         let f : ℕ → ℤ = λ u. cond (ltb u (variables p)) (startValue p u) (pos 0) in
         bool-cases (ltb v 64) (λ e. subst P (sym (getD-table 64 f (pos 0) v (ltb-true v 64 e))) a)
-          (λ e. subst P (sym (List·getD-eq-default (table 64 f) (pos 0) (subst (λ (n : ℕ). n ≤ v) (sym (length-table 64 f)) (ltb-false v 64 e)))) b)
+        (λ e. subst P (sym (List·getD-eq-default (table 64 f) (pos 0) (subst (λ (n : ℕ). n ≤ v) (sym (length-table 64 f)) (ltb-false v 64 e)))) b)
 
 initial-location : (p : Plan) → Accepted p → (k : ℕ) → k < 16 → locationOk p (initialState p) k ≡ true
 unfolding locationOk initialState componentOk
 initial-location p h k l =
     let f : ℕ → ℕ = λ c. cond (ltb c (components p)) (startLocation p c) 0 in
     rw (getD-table 16 f 0 k l)
-      (bool-cases (ltb k (components p)) (λ e. rw e (each _ (h .component k (ltb-true k (components p) e)) .1 .0)) (λ e. rw e refl))
+    (bool-cases (ltb k (components p)) (λ e. rw e (each _ (h .component k (ltb-true k (components p) e)) .1 .0)) (λ e. rw e refl))
 
 initial-port : (p : Plan) (k : ℕ) → k < 16 → lastPortOk p (initialState p) k ≡ true
 unfolding lastPortOk initialState
@@ -98,14 +98,14 @@ initial-port p k l =
 pub sound-initial : (p : Plan) → Accepted p → Sound p (initial p)
 unfolding initial judged initialState
 sound-initial p h =
-    record
-      { oracle< = judged-lt p h (firstOracle p) (initialState p) (counts-of p (h .counts) .first<)
-      ; locations-16 = length-table 16 (λ c. cond (ltb c (components p)) (startLocation p c) 0)
-      ; ports-16 = length-table {A = ℕ} 16 (λ c. 255)
-      ; location = initial-location p h
-      ; port = initial-port p
-      ; valued = initial-valued p
-      }
+    record {
+      oracle< = judged-lt p h (firstOracle p) (initialState p) (counts-of p (h .counts) .first<);
+      locations-16 = length-table 16 (λ c. cond (ltb c (components p)) (startLocation p c) 0);
+      ports-16 = length-table {A = ℕ} 16 (λ c. 255);
+      location = initial-location p h;
+      port = initial-port p;
+      valued = initial-valued p;
+    }
 
 -- ---- one move
 
@@ -118,9 +118,9 @@ pub part : (p : Plan) → Accepted p → (i c : ℕ) → i < interactions p → 
 unfolding interactionOk portOk takesPart
 part p h i c l m t =
     or-cases (eqb (portIn p i c) 255) (allOf (ltb c (components p) ∷ ltb (portIn p i c) (ports p c) ∷ []))
-      (every-at 16 (portOk p i) (each _ (h .interaction i l) .0) c m)
-      (λ e. absurd-bool e (not-yes (eqb (portIn p i c) 255) t))
-      (λ e. let b = each _ e in record { component< = ltb-true _ _ (b .0); port< = ltb-true _ _ (b .1 .0) })
+    (every-at 16 (portOk p i) (each _ (h .interaction i l) .0) c m)
+    (λ e. absurd-bool e (not-yes (eqb (portIn p i c) 255) t))
+    (λ e. let b = each _ e in record { component< = ltb-true _ _ (b .0); port< = ltb-true _ _ (b .1 .0) })
 
 -- the transition that it uses is one of the plan's, and its own
 pub record Usable (p : Plan) (s : State) (i c : ℕ) : Type 0 where
@@ -131,7 +131,7 @@ pub usable : (p : Plan) (s : State) (i c : ℕ) → enabled p s i ≡ true → c
 unfolding enabled used chosen ready
 usable p s i c e l t =
     let h : used p s i c < transitions p
-          = ltb-true _ _ (implies-at (takesPart p i c) _ (every-at (components p) (λ k. implies (takesPart p i k) (ltb (used p s i k) (transitions p))) (each _ e .1 .0) c l) t) in
+    = ltb-true _ _ (implies-at (takesPart p i c) _ (every-at (components p) (λ k. implies (takesPart p i k) (ltb (used p s i k) (transitions p))) (each _ e .1 .0) c l) t) in
     record { transition< = h; own = eqb-true _ _ (each _ (lowest-is (transitions p) (ready p s c (portIn p i c)) .hit h) .0) }
 
 module _ (p : Plan) (h : Accepted p) (c : Configuration) (g : Sound p c) (i : ℕ) (l : i < interactions p) (e : enabled p (c .state) i ≡ true) where
@@ -143,24 +143,24 @@ module _ (p : Plan) (h : Accepted p) (c : Configuration) (g : Sound p c) (i : �
   fired-location k m =
       let f : ℕ → ℕ = λ n. cond (takesPart p i n) (destination p (used p (c .state) i n)) (getD (c .state .locations) n 0) in
       rw (getD-table 16 f 0 k m)
-        (bool-cases (takesPart p i k)
-          (λ t.
-            let u = use-of k m t in
-            let r = each _ (h .transition (used p (c .state) i k) (u .1 .transition<)) in
-            rw (t, lt-ltb k (components p) (u .0 .component<)) (rw (u .1 .own) at (r .1 .1 .1 .0)))
-          (λ t. rw t (g .location k m)))
+      (bool-cases (takesPart p i k)
+      (λ t.
+      let u = use-of k m t in
+      let r = each _ (h .transition (used p (c .state) i k) (u .1 .transition<)) in
+      rw (t, lt-ltb k (components p) (u .0 .component<)) (rw (u .1 .own) at (r .1 .1 .1 .0)))
+      (λ t. rw t (g .location k m)))
 
   fired-port : (k : ℕ) → k < 16 → lastPortOk p (fired p (c .state) i) k ≡ true
   unfolding lastPortOk fired
   fired-port k m =
       let f : ℕ → ℕ = λ n. cond (takesPart p i n) (portIn p i n) (getD (c .state .lastPorts) n 0) in
       rw (getD-table 16 f 0 k m)
-        (bool-cases (takesPart p i k)
-          (λ t.
-            let u = use-of k m t in
-            rw (t, lt-ltb k (components p) (u .0 .component<))
-              (or-right (eqb (portIn p i k) 255) (ltb (portIn p i k) (ports p k)) (lt-ltb (portIn p i k) (ports p k) (u .0 .port<))))
-          (λ t. rw t (g .port k m)))
+      (bool-cases (takesPart p i k)
+      (λ t.
+      let u = use-of k m t in
+      rw (t, lt-ltb k (components p) (u .0 .component<))
+      (or-right (eqb (portIn p i k) 255) (ltb (portIn p i k) (ports p k)) (lt-ltb (portIn p i k) (ports p k) (u .0 .port<))))
+      (λ t. rw t (g .port k m)))
 
   owned-low : (k v : ℕ) → ownedBy p k v ≡ true → v < variables p
   unfolding ownedBy
@@ -177,21 +177,21 @@ module _ (p : Plan) (h : Accepted p) (c : Configuration) (g : Sound p c) (i : �
       let r = actedBelow p (c .state) i n in
       let before : Valued p (r .values) = acted-below n (le-trans (le-of-lt (le-refl (suc n))) m) in
       bool-cases (takesPart p i n)
-        (λ t.
-          let u = use-of n m t in
-          rw t
-            (acted-valued p (ownedBy p (componentOf p (used p (c .state) i n))) (actionOf p (used p (c .state) i n)) r
-              (action-ok p h (used p (c .state) i n) (u .1 .transition<)) (owned-low (componentOf p (used p (c .state) i n))) before))
-        (λ t. rw t before)
+      (λ t.
+      let u = use-of n m t in
+      rw t
+      (acted-valued p (ownedBy p (componentOf p (used p (c .state) i n))) (actionOf p (used p (c .state) i n)) r
+      (action-ok p h (used p (c .state) i n) (u .1 .transition<)) (owned-low (componentOf p (used p (c .state) i n))) before))
+      (λ t. rw t before)
 
   pub sound-after : Sound p (after p c i)
   unfolding after judged fired
   sound-after =
-      record
-        { oracle< = judged-lt p h (c .oracle) (fired p (c .state) i) (g .oracle<)
-        ; locations-16 = length-table 16 (λ k. cond (takesPart p i k) (destination p (used p (c .state) i k)) (getD (c .state .locations) k 0))
-        ; ports-16 = length-table 16 (λ k. cond (takesPart p i k) (portIn p i k) (getD (c .state .lastPorts) k 0))
-        ; location = fired-location
-        ; port = fired-port
-        ; valued = acted-below (components p) (counts-of p (h .counts) .components≤)
-        }
+      record {
+        oracle< = judged-lt p h (c .oracle) (fired p (c .state) i) (g .oracle<);
+        locations-16 = length-table 16 (λ k. cond (takesPart p i k) (destination p (used p (c .state) i k)) (getD (c .state .locations) k 0));
+        ports-16 = length-table 16 (λ k. cond (takesPart p i k) (portIn p i k) (getD (c .state .lastPorts) k 0));
+        location = fired-location;
+        port = fired-port;
+        valued = acted-below (components p) (counts-of p (h .counts) .components≤);
+      }

@@ -1,20 +1,23 @@
--- What the rules of a span give, word by word: each word is allowed and fed, and the stack is as deep as the rules count.
+-- What the rules of a span give, word by word: each word is allowed and has what it pops, and the stack is as deep as the rules count.
+-- What a span may change: the variables that it may name.
 use mathlib.Core.Path.{_≡_, refl, sym, ap, _∙_, subst}
 use Prim.Native.Nat.{ℕ, zero, suc, _+_, _-_, _≤_, _<_, zero-le, suc-le-suc}
-use native.Mathlib.Nat.{le-refl, le-of-suc-le-suc, not-suc-le-zero, eq-or-lt-of-le}
+use native.Mathlib.Nat.{le-of-suc-le-suc, eq-or-lt-of-le}
 use native.Mathlib.Omega.{arith}
-use mathlib.Core.Logic.{_⊎_, inl, inr}
+use mathlib.Core.Logic.{inl, inr}
 use mathlib.Core.Bool.{Bool, true, false, not, cond, true≢false, false≢true}
 use mathlib.Core.List.{List, [], _∷_}
 use mathlib.Core.Option.{Option, none, some, Option·none-ne-some, Option·some-injective}
-use lib.ListN.{length, getD, set, drop, length-set, length-drop}
+use lib.ListN.{length, getD, drop, length-set, length-drop}
 use lib.Seq.{getD-set-other}
-use lib.Dec.{leb, ltb, eqb}
+use lib.Dec.{leb, eqb}
 use lib.IntN.{ℤ, pos}
 use Rattle.semantics.specs.Bytes.{allOf}
-use Rattle.semantics.specs.Plan.{Plan, Span, codeWords, word}
+use Rattle.semantics.specs.Plan.{Plan, Span, word}
 use Rattle.semantics.specs.Code.{State, Instruction, push, extendTop, load, store, located, lastPort, operator, unknown, decode, Machine, operatorPops, operatorPushes, perform, ran, acted, Role, allowed, pops, pushes, shifted, deeper, depth, finalDepth, endsAt, spanOk}
 use Rattle.semantics.proofs.Basics.{bool-cases, absurd-bool, each, leb-true, ltb-true, eqb-true, eqb-false, ne-eqb}
+
+-- ---- small laws
 
 cond-some : (b : Bool) (x e : ℕ) → cond b (some x) none ≡ some e → (b ≡ true) × (x ≡ e)
 cond-some true x e h = (refl, Option·some-injective x e h)
@@ -43,12 +46,17 @@ operator-depth (suc (suc (suc (suc (suc (suc (suc (suc n)))))))) h xs x = absurd
     past : (n : ℕ) → suc (suc (suc (suc (suc (suc (suc (suc n))))))) < 8 → ⊥
     past n h = omega arith
 
+-- how deep a stack is after a word that pushes one, pops one, does neither
 pushed : (d e : ℕ) → d - 0 + 1 ≡ e → suc d ≡ e
 pushed d e h = omega arith
+
+popped : (d e : ℕ) → d - 1 + 0 ≡ e → d - 1 ≡ e
+popped d e h = omega arith
 
 kept : (d e : ℕ) → d - 0 + 0 ≡ e → d ≡ e
 kept d e h = omega arith
 
+-- a length that is not 0
 some-words : (n : ℕ) → (n ≡ 0 → ⊥) → 0 < n
 some-words zero f = absurd (f refl)
 some-words (suc n) f = suc-le-suc zero-le
@@ -63,8 +71,7 @@ cond-no : (t b c : Bool) → t ≡ false → cond t b c ≡ true → c ≡ true
 cond-no true b c e h = absurd (true≢false e)
 cond-no false b c e h = h
 
-popped : (d e : ℕ) → d - 1 + 0 ≡ e → d - 1 ≡ e
-popped d e h = omega arith
+-- ---- word by word
 
 module _ (p : Plan) (r : Role) (names : ℕ → Bool) where
   -- a word that keeps the rules takes the depth d to e
@@ -72,9 +79,9 @@ module _ (p : Plan) (r : Role) (names : ℕ → Bool) where
     pub fits : allowed p r names i ≡ true
     pub enough : pops i ≤ d
     pub after : d - pops i + pushes i ≡ e
-    pub low : d - pops i + pushes i ≤ 8
+    pub low : e ≤ 8
 
-  -- the depth before a word that keeps the rules
+  -- the count o before the word i is a number, and the word takes it to e
   pub record Stepped (i : Instruction) (o : Option ℕ) (e : ℕ) : Type 0 where
     pub was : ℕ
     pub counted : o ≡ some was
@@ -85,8 +92,9 @@ module _ (p : Plan) (r : Role) (names : ℕ → Bool) where
   shifted-step i d e h =
       let c = cond-some (allOf (allowed p r names i ∷ leb (pops i) d ∷ leb (d - pops i + pushes i) 8 ∷ [])) (d - pops i + pushes i) e h in
       let t = each _ (c .0) in
-      record { fits = t .0; enough = leb-true _ _ (t .1 .0); after = c .1; low = leb-true _ _ (t .1 .1 .0) }
+      record { fits = t .0; enough = leb-true _ _ (t .1 .0); after = c .1; low = subst (λ (x : ℕ). x ≤ 8) (c .1) (leb-true _ _ (t .1 .1 .0)) }
 
+  -- where the count after a word is a number, the word keeps the rules
   pub stepped : (i : Instruction) (o : Option ℕ) (e : ℕ) → deeper p r names i o ≡ some e → Stepped i o e
   unfolding deeper
   stepped i none e h = absurd (Option·none-ne-some e h)
@@ -113,7 +121,7 @@ module _ (p : Plan) (r : Role) (names : ℕ → Bool) where
   pub depth-low : (k n d : ℕ) → depth p r names k n ≡ some d → d ≤ 8
   unfolding depth
   depth-low k zero d h = subst (λ (x : ℕ). x ≤ 8) (Option·some-injective 0 d h) zero-le
-  depth-low k (suc n) d h = let w = word-step k n d h in subst (λ (x : ℕ). x ≤ 8) (w .step .after) (w .step .low)
+  depth-low k (suc n) d h = word-step k n d h .step .low
 
   -- a word that keeps the rules leaves the stack as deep as they count
   pub perform-depth : (i : Instruction) (s : State) (m : Machine) (e : ℕ) → Step i (length (m .stack)) e → length (perform i s m .stack) ≡ e
@@ -127,7 +135,7 @@ module _ (p : Plan) (r : Role) (names : ℕ → Bool) where
   perform-depth (operator n) s m e t = operator-depth n (ltb-true n 8 (t .fits)) (m .stack) (pos 0) ∙ t .after
   perform-depth unknown s m e t = kept (length (m .stack)) e (t .after)
 
-  -- the stack is as deep as the rules count
+  -- after n words the stack is as deep as the rules count
   pub ran-depth : (k n d : ℕ) (s : State) → depth p r names k n ≡ some d → length (ran p s k n .stack) ≡ d
   unfolding ran depth
   ran-depth k zero d s h = Option·some-injective 0 d h
@@ -158,7 +166,7 @@ module _ (p : Plan) (r : Role) (names : ℕ → Bool) where
       bool-cases (eqb (g .size) 0) (λ e. (0, no-words (g .start) (g .size) (eqb-true (g .size) 0 e)))
       (λ e. (finalDepth r, span-end g h (some-words (g .size) (eqb-false (g .size) 0 e))))
 
-  -- what a span that keeps the rules gives at each of its words
+  -- and after each of its words
   pub span-step : (g : Span) → spanOk p r names g ≡ true → (n : ℕ) → n < g .size
       → (e : ℕ) × (depth p r names (g .start) (suc n) ≡ some e)
   span-step g h n l = let d = span-depth g h in depth-before (g .start) (g .size) (d .0) (d .1) (suc n) l
@@ -172,7 +180,9 @@ module _ (p : Plan) (r : Role) (names : ℕ → Bool) where
   perform-frame (push n) h s m v f = refl
   perform-frame (extendTop n) h s m v f = refl
   perform-frame (load n) h s m v f = refl
-  perform-frame (store n) h s m v f = getD-set-other (m .values) n v (getD (m .stack) 0 (pos 0)) (pos 0) (λ q. absurd-bool (subst (λ (x : ℕ). names x ≡ true) (sym q) (each _ h .1 .0)) f)
+  perform-frame (store n) h s m v f =
+      getD-set-other (m .values) n v (getD (m .stack) 0 (pos 0)) (pos 0)
+      (λ q. absurd-bool (subst (λ (x : ℕ). names x ≡ true) (sym q) (each _ h .1 .0)) f)
   perform-frame (located c l) h s m v f = refl
   perform-frame (lastPort c q) h s m v f = refl
   perform-frame (operator n) h s m v f = refl
@@ -192,6 +202,8 @@ module _ (p : Plan) (r : Role) (names : ℕ → Bool) where
   unfolding acted
   frame g h s v f = let d = span-depth g h in ran-frame (g .start) (g .size) (d .0) s (d .1) v f
 
+-- ---- how many values there are
+
 perform-long : (i : Instruction) (s : State) (m : Machine) → length (perform i s m .values) ≡ length (m .values)
 unfolding perform
 perform-long (push n) s m = refl
@@ -209,6 +221,7 @@ unfolding ran
 ran-long p s k zero = refl
 ran-long p s k (suc n) = perform-long (decode (word p (k + n))) s (ran p s k n) ∙ ran-long p s k n
 
+-- so does an action or a transfer
 pub acted-long : (p : Plan) (s : State) (g : Span) → length (acted p s g .values) ≡ length (s .values)
 unfolding acted
 acted-long p s g = ran-long p s (g .start) (g .size)

@@ -1,0 +1,48 @@
+-- Demand 3, first corollary: after any calls from an accepted start on, the bytes of the image but the marks are those that the last start or
+-- commit left.
+use mathlib.Core.Path.{_≡_, refl, sym, ap, _∙_, subst}
+use Prim.Native.Nat.{ℕ}
+use mathlib.Core.Bool.{Bool, true, false, cond}
+use mathlib.Core.List.{List, [], _∷_, _++_}
+use lib.ListN.{take, drop}
+use Rattle.semantics.specs.Bytes.{leBytes, mask}
+use Rattle.semantics.specs.Plan.{Plan}
+use Rattle.semantics.specs.Rules.{planRefusal}
+use Rattle.semantics.specs.Image.{Image, head, image}
+use Rattle.semantics.specs.Calls.{Answer, committed, Outcome, outcome, start, Call, calledAll}
+use Rattle.semantics.specs.Book.{Book, blank, lane, bookImage, listed, crossedOff, Entry, entry, turn, told}
+use Rattle.semantics.specs.Run.{commits, leftBy, lastCommitted}
+use Rattle.semantics.proofs.BookStep.{Lawful, turn-lawful}
+use Rattle.semantics.proofs.BookTurns.{Turned, commits-move, crosses-off, changes-nothing, turned}
+use Rattle.semantics.proofs.Demand3.{Starts, start-plan, start-is, blank-lawful, calls-told}
+
+-- two images are the same but for the marks, bytes 16 to 23
+pub record SameButMarks (a b : Image) : Type 0 where
+  pub before : take 16 a ≡ take 16 b
+  pub behind : drop 24 a ≡ drop 24 b
+
+-- the image of a book with moves crossed off is that of the book but for the marks
+crossed-image : (p : Plan) (k : Book) (f : ℕ → Bool) (b : Image) → SameButMarks (bookImage p k) b → SameButMarks (bookImage p (crossedOff k f)) b
+unfolding bookImage lane image head leBytes
+crossed-image p k f b s = record { before = s .before; behind = s .behind }
+
+module _ (p : Plan) (e : planRefusal p ≡ 0) where
+  one-turn : (k : Book) (n : Entry) (b : Image) → Turned p k n → SameButMarks (bookImage p k) b
+      → SameButMarks (bookImage p (n .book)) (cond (commits (n .answer)) (bookImage p (n .book)) b)
+  one-turn k n b (commits-move i l m g) s = record { before = refl; behind = refl }
+  one-turn k n b (crosses-off a f c x) s = rw c (crossed-image p k f b s)
+  one-turn k n b (changes-nothing a c x) s = rw c s
+
+  all-turns : (k : Book) → Lawful p k → (b : Image) → SameButMarks (bookImage p k) b → (cs : List Call)
+      → SameButMarks (leftBy (bookImage p k) (told p k cs)) (lastCommitted b (told p k cs))
+  unfolding leftBy lastCommitted told
+  all-turns k h b s [] = s
+  all-turns k h b s (c ∷ cs) =
+      all-turns (turn p k c .book) (turn-lawful p e k h c) (cond (commits (turn p k c .answer)) (bookImage p (turn p k c .book)) b)
+      (one-turn k (turn p k c) b (turned p e k h c) s) cs
+
+pub bytes-but-marks : (p : Plan) (b : Image) → Starts p b → (cs : List Call)
+    → SameButMarks (leftBy (start p b .image) (calledAll p (start p b .image) cs)) (lastCommitted (start p b .image) (calledAll p (start p b .image) cs))
+bytes-but-marks p b e cs =
+    rw (calls-told p b e cs, start-is p b e)
+    (all-turns p (start-plan p b e) blank (blank-lawful p b e) (bookImage p blank) (record { before = refl; behind = refl }) cs)

@@ -1,0 +1,117 @@
+-- Demand 3, second corollary: after any calls from an accepted start on, the marks are exactly the moves crossed off since the last start or
+-- commit, and none of them ends good.
+use mathlib.Core.Path.{_≡_, refl, sym, ap, ap₂, _∙_, subst}
+use Prim.Native.Nat.{ℕ, _<_}
+use mathlib.Core.Bool.{Bool, true, false, not, cond, _&&_, _||_}
+use mathlib.Core.List.{List, [], _∷_, _++_}
+use lib.Dec.{ltb}
+use Rattle.semantics.specs.Bytes.{bit, mask}
+use Rattle.semantics.specs.Plan.{Plan, interactions}
+use Rattle.semantics.specs.Rules.{planRefusal}
+use Rattle.semantics.specs.Move.{Configuration, enabled, outranked, eligible, after, good}
+use Rattle.semantics.specs.Image.{Image, marksOf, configurationOf, markOk}
+use Rattle.semantics.specs.Calls.{Answer, committed, Outcome, outcome, start, Call, calledAll}
+use Rattle.semantics.specs.Book.{Book, blank, lane, bookImage, listed, crossedOff, Entry, entry, turn, told, kept}
+use Rattle.semantics.specs.Run.{commits, noCommit, sinceCommit, leftBy, crosses, someCrosses}
+use Rattle.semantics.proofs.Basics.{bool-cases, absurd-bool, not-yes, and-both, each, ltb-true, ltb-false}
+use Rattle.semantics.proofs.Masks.{bit-mask, bit-mask-over, mask-same}
+use Rattle.semantics.proofs.BookStep.{Lawful, turn-lawful, held-lane, held-marks}
+use Rattle.semantics.proofs.BookTurns.{Turned, commits-move, crosses-off, changes-nothing, turned, left-told, kept-lawful}
+use Rattle.semantics.proofs.Demand3.{Starts, start-plan, start-is, blank-lawful, calls-told}
+
+or-none : (a : Bool) → (a || false) ≡ a
+or-none true = refl
+or-none false = refl
+
+or-assoc : (a b c : Bool) → (a || b || c) ≡ (a || (b || c))
+or-assoc true b c = refl
+or-assoc false b c = refl
+
+-- where nothing was committed, all outcomes are since the last commit
+since-all : (os : List Outcome) → noCommit os ≡ true → sinceCommit os ≡ os
+unfolding noCommit sinceCommit
+since-all [] e = refl
+since-all (o ∷ os) e =
+    let h = and-both (not (commits (o .answer))) (noCommit os) e in rw (h .1, not-yes (commits (o .answer)) (h .0))
+
+module _ (p : Plan) (e : planRefusal p ≡ 0) where
+  lane-stays : (k : Book) (n : Entry) → Turned p k n → commits (n .answer) ≡ false → lane p (n .book) ≡ lane p k
+  unfolding lane
+  lane-stays k n (commits-move i l m g) c = absurd-bool refl c
+  lane-stays k n (crosses-off a f d x) c = refl
+  lane-stays k n (changes-nothing a d x) c = refl
+
+  -- without a commit the lane stays
+  lane-kept : (k : Book) → Lawful p k → (cs : List Call) → noCommit (told p k cs) ≡ true → lane p (kept p k cs) ≡ lane p k
+  unfolding told kept noCommit
+  lane-kept k h [] n = refl
+  lane-kept k h (c ∷ cs) n =
+      let q = and-both (not (commits (turn p k c .answer))) (noCommit (told p (turn p k c .book) cs)) n in
+      lane-kept (turn p k c .book) (turn-lawful p e k h c) cs (q .1)
+      ∙ lane-stays k (turn p k c) (turned p e k h c) (not-yes (commits (turn p k c .answer)) (q .0))
+
+  set-stays : (k : Book) (n : Entry) → Turned p k n → commits (n .answer) ≡ false → (j : ℕ) → n .book .crossed j ≡ (k .crossed j || crosses p (lane p k) j (n .answer))
+  set-stays k n (commits-move i l m g) c j = absurd-bool refl c
+  set-stays k n (crosses-off a f d x) c j = rw (x j)
+  set-stays k n (changes-nothing a d x) c j = rw (x j) (sym (or-none (k .crossed j)))
+
+  set-emptied : (k : Book) (n : Entry) → Turned p k n → commits (n .answer) ≡ true → (j : ℕ) → n .book .crossed j ≡ false
+  set-emptied k n (commits-move i l m g) c j = refl
+  set-emptied k n (crosses-off a f d x) c j = absurd-bool c d
+  set-emptied k n (changes-nothing a d x) c j = absurd-bool c d
+
+  -- the set: what was crossed off before, if nothing was committed, and what has been since
+  set-kept : (k : Book) → Lawful p k → (cs : List Call) (j : ℕ)
+      → kept p k cs .crossed j ≡ (cond (noCommit (told p k cs)) (k .crossed j) false || someCrosses p (lane p (kept p k cs)) j (sinceCommit (told p k cs)))
+  unfolding kept told noCommit sinceCommit someCrosses
+  set-kept k h [] j = sym (or-none (k .crossed j))
+  set-kept k h (c ∷ cs) j =
+      let n : Entry = turn p k c in
+      let t : Turned p k n = turned p e k h c in
+      let os : List Outcome = told p (n .book) cs in
+      let ih = set-kept (n .book) (turn-lawful p e k h c) cs j in
+      bool-cases (noCommit os)
+      (λ q. bool-cases (commits (n .answer))
+      (λ w. rw (q, w) (rw (q, set-emptied k n t w j, since-all os q) at ih))
+      (λ w. rw (q, w)
+      ((rw (q, set-stays k n t w j, since-all os q) at ih)
+      ∙ or-assoc (k .crossed j) (crosses p (lane p k) j (n .answer)) (someCrosses p (lane p (kept p (n .book) cs)) j os)
+      ∙ ap (λ (l : Configuration). k .crossed j || (crosses p l j (n .answer) || someCrosses p (lane p (kept p (n .book) cs)) j os))
+      (sym (lane-kept (n .book) (turn-lawful p e k h c) cs q ∙ lane-stays k n t w)))))
+      (λ q. bool-cases (commits (n .answer)) (λ w. rw (q, w) (rw q at ih)) (λ w. rw (q, w) (rw q at ih)))
+
+-- what the second corollary says of the image b that outcomes os, begun after a start, left
+pub record Marked (p : Plan) (b : Image) (os : List Outcome) : Type 0 where
+  -- bit i of the marks is set exactly where some outcome since the last start or commit crossed off move i
+  pub exactly : marksOf b ≡ mask (interactions p) (λ i. someCrosses p (configurationOf b) i (sinceCommit os))
+  -- a marked move is one of the plan's, enabled and not outranked, and ends bad
+  pub none-good : (i : ℕ) → bit (marksOf b) i ≡ true → markOk p (configurationOf b) i ≡ true
+
+marked-told : (p : Plan) → planRefusal p ≡ 0 → (cs : List Call) → Lawful p blank → Marked p (bookImage p (kept p blank cs)) (told p blank cs)
+marked-told p e cs h =
+    let k : Book = kept p blank cs in
+    let l : Lawful p k = kept-lawful p e blank h cs in
+    record {
+      exactly =
+          rw (held-lane p e k l)
+          (held-marks p e k l
+          ∙ mask-same (interactions p) (λ i. someCrosses p (lane p k) i (sinceCommit (told p blank cs))) (k .crossed)
+          (λ i m. set-kept p e blank h cs i ∙ ap (λ (b : Bool). b || someCrosses p (lane p k) i (sinceCommit (told p blank cs))) (no-set (noCommit (told p blank cs)))));
+      none-good = λ i m. rw (held-lane p e k l) (bad i (sym (ap (λ (n : ℕ). bit n i) (held-marks p e k l)) ∙ m));
+    }
+  where
+    bad : (i : ℕ) → bit (mask (interactions p) (kept p blank cs .crossed)) i ≡ true → markOk p (lane p (kept p blank cs)) i ≡ true
+    bad i m =
+        let k : Book = kept p blank cs in
+        bool-cases (ltb i (interactions p))
+        (λ t. kept-lawful p e blank h cs .crossed-bad i (ltb-true _ _ t) (sym (bit-mask (interactions p) (k .crossed) i (ltb-true _ _ t)) ∙ m))
+        (λ t. absurd-bool m (bit-mask-over (interactions p) (k .crossed) i (ltb-false _ _ t)))
+
+    no-set : (b : Bool) → cond b false false ≡ false
+    no-set true = refl
+    no-set false = refl
+
+pub marks-exactly : (p : Plan) (b : Image) → Starts p b → (cs : List Call)
+    → Marked p (leftBy (start p b .image) (calledAll p (start p b .image) cs)) (calledAll p (start p b .image) cs)
+marks-exactly p b e cs =
+    rw (calls-told p b e cs, start-is p b e, left-told p blank cs) (marked-told p (start-plan p b e) cs (blank-lawful p b e))
