@@ -127,20 +127,22 @@ module _ (p : Plan) (e : planRefusal p ≡ 0) where
         other : (j : ℕ) → j ≡ i → interactions p ≤ j → ⊥
         other j q m = omega arith
 
-    image-crossed : (f : ℕ → Bool) → image p (lane p k) (mask (interactions p) (crossedOff k f .crossed)) ≡ bookImage p (crossedOff k f)
+    -- the image with other marks is the book's with other moves crossed off
+    marked-crossed : (f : ℕ → Bool) → withMarks (bookImage p k) (mask (interactions p) (crossedOff k f .crossed)) ≡ bookImage p (crossedOff k f)
     unfolding bookImage lane
-    image-crossed f = refl
+    marked-crossed f = withMarks-image p (lane p k) (mask (interactions p) (k .crossed)) (mask (interactions p) (crossedOff k f .crossed))
+
+    -- a cancelled move: its mark is set in the image as it is crossed off in the book
+    cancelled-same : (i : ℕ) → i < interactions p → withMarks (bookImage p k) (withBit (marksOf (bookImage p k)) i) ≡ bookImage p (crossedOff k (λ j. eqb j i))
+    cancelled-same i l =
+        ap (withMarks (bookImage p k)) (ap (λ (m : ℕ). withBit m i) held-marks ∙ bit-set i l) ∙ marked-crossed (λ j. eqb j i)
 
     tried-same : (i : ℕ) → i < interactions p → tried p (bookImage p k) i ≡ outcome (bookTried p k i .answer) (bookImage p (bookTried p k i .book))
     unfolding tried bookTried
     tried-same i l =
-        rw (held-lane, held-marks, bit-set i l)
+        rw held-lane
         (bool-cases (good p (after p (lane p k) i)) (λ t. rw t (ap (outcome (committed i)) (image-listed p k i)))
-        (λ t. rw t (ap (outcome (cancelled i)) (marked ∙ image-crossed (λ j. eqb j i)))))
-      where
-        marked : withMarks (bookImage p k) (mask (interactions p) (crossedOff k (λ j. eqb j i) .crossed))
-            ≡ image p (lane p k) (mask (interactions p) (crossedOff k (λ j. eqb j i) .crossed))
-        marked = unfold bookImage in withMarks-image p (lane p k) (mask (interactions p) (k .crossed)) (mask (interactions p) (crossedOff k (λ j. eqb j i) .crossed))
+        (λ t. rw t (ap (outcome (cancelled i)) (cancelled-same i l))))
 
     safe-same : safeMove p (lane p k) ≡ bookSafe p k
     unfolding safeMove bookSafe
@@ -155,17 +157,16 @@ module _ (p : Plan) (e : planRefusal p ≡ 0) where
         (or-right (k .crossed j) (eligible p (lane p k .state) j))
         (λ t. or-cases (k .crossed j) (eligible p (lane p k .state) j) t (λ b. each _ (h .crossed-bad j l b) .1 .0) (λ b. b)))
 
+    -- penned: the image marks the eligible moves, the book crosses them off
+    penned-same : withMarks (bookImage p k) (mask (interactions p) (eligible p (lane p k .state))) ≡ bookImage p (crossedOff k (eligible p (lane p k .state)))
+    penned-same = ap (withMarks (bookImage p k)) all-crossed ∙ marked-crossed (eligible p (lane p k .state))
+
     settled-same : settled p (bookImage p k) ≡ outcome (bookSettled p k .answer) (bookImage p (bookSettled p k .book))
     unfolding settled bookSettled
     settled-same =
-        rw (held-lane, safe-same, all-crossed)
+        rw (held-lane, safe-same)
         (bool-cases (ltb (bookSafe p k) (interactions p)) (λ t. rw t (ap (outcome (committed (bookSafe p k))) (image-listed p k (bookSafe p k))))
-        (λ t. bool-cases (some-below (interactions p) (enabled p (lane p k .state)))
-        (λ u. rw (t, u) (ap (outcome penned) (marked ∙ image-crossed (eligible p (lane p k .state))))) (λ u. rw (t, u) refl)))
-      where
-        marked : withMarks (bookImage p k) (mask (interactions p) (crossedOff k (eligible p (lane p k .state)) .crossed))
-            ≡ image p (lane p k) (mask (interactions p) (crossedOff k (eligible p (lane p k .state)) .crossed))
-        marked = unfold bookImage in withMarks-image p (lane p k) (mask (interactions p) (k .crossed)) (mask (interactions p) (crossedOff k (eligible p (lane p k .state)) .crossed))
+        (λ t. bool-cases (some-below (interactions p) (enabled p (lane p k .state))) (λ u. rw (t, u) (ap (outcome penned) penned-same)) (λ u. rw (t, u) refl)))
 
     -- ---- one call
 
@@ -231,7 +232,7 @@ module _ (p : Plan) (e : planRefusal p ≡ 0) where
     tried-lawful i a =
         bool-cases (good p (after p (lane p k) i)) (λ t. rw t (listed-lawful i (a .number<) (a .is-eligible) t))
         (λ t. rw t (crossed-lawful (λ j. eqb j i)
-        (λ j l b. rw (eqb-true j i b) (all-of _ (lt-ltb i (interactions p) (a .number<), (a .is-eligible, (rw t refl, tt)))))))
+        (λ j l b. rw (eqb-true j i b) (all-of _ (lt-ltb i (interactions p) (a .number<), (a .is-eligible, (ap not t, tt)))))))
 
     wrong-lawful : (i n : ℕ) → bookRefusal p k i ≡ n → Lawful p (unlessWrong n k (bookTried p k i) .book)
     unfolding unlessWrong
@@ -259,7 +260,7 @@ module _ (p : Plan) (e : planRefusal p ≡ 0) where
             let f : ℕ → Bool = λ j. allOf (eligible p (lane p k .state) j ∷ good p (after p (lane p k) j) ∷ []) in
             bool-cases (good p (after p (lane p k) i))
             (λ g. absurd-bool (all-of (eligible p (lane p k .state) i ∷ good p (after p (lane p k) i) ∷ []) (b, (g, tt))) (lowest-none (interactions p) f t i l))
-            (λ g. rw g refl)
+            (λ g. ap not g)
 
     pub turn-lawful : (c : Call) → Lawful p (turn p k c .book)
     unfolding turn bookOffered

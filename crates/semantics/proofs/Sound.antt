@@ -20,6 +20,7 @@ use Rattle.semantics.proofs.Masks.{mask-lt}
 use Rattle.semantics.proofs.AcceptedPlan.{Accepted, Counts, counts-of, action-ok, transfer-ok}
 use Rattle.semantics.proofs.Evaluator.{low-word, signed-word, Words, Valued, acted-valued}
 use Rattle.semantics.proofs.Images.{Shaped}
+use Rattle.semantics.proofs.OneMove.{Uses, uses}
 
 pub record Sound (p : Plan) (c : Configuration) : Type 0 where
   pub oracle< : c .oracle < oracleStates p
@@ -122,21 +123,9 @@ part p h i c l m t =
     (λ e. absurd-bool e (not-yes (eqb (portIn p i c) 255) t))
     (λ e. let b = each _ e in record { component< = ltb-true _ _ (b .0); port< = ltb-true _ _ (b .1 .0) })
 
--- the transition that it uses is one of the plan's, and its own
-pub record Usable (p : Plan) (s : State) (i c : ℕ) : Type 0 where
-  pub transition< : used p s i c < transitions p
-  pub own : componentOf p (used p s i c) ≡ c
-
-pub usable : (p : Plan) (s : State) (i c : ℕ) → enabled p s i ≡ true → c < components p → takesPart p i c ≡ true → Usable p s i c
-unfolding enabled used chosen ready
-usable p s i c e l t =
-    let h : used p s i c < transitions p
-    = ltb-true _ _ (implies-at (takesPart p i c) _ (every-at (components p) (λ k. implies (takesPart p i k) (ltb (used p s i k) (transitions p))) (each _ e .1 .0) c l) t) in
-    record { transition< = h; own = eqb-true _ _ (each _ (lowest-is (transitions p) (ready p s c (portIn p i c)) .hit h) .0) }
-
 module _ (p : Plan) (h : Accepted p) (c : Configuration) (g : Sound p c) (i : ℕ) (l : i < interactions p) (e : enabled p (c .state) i ≡ true) where
-  use-of : (k : ℕ) → k < 16 → takesPart p i k ≡ true → Part p i k × Usable p (c .state) i k
-  use-of k m t = let q = part p h i k l m t in (q, usable p (c .state) i k e (q .component<) t)
+  use-of : (k : ℕ) → k < 16 → takesPart p i k ≡ true → Part p i k × Uses p (c .state) i k
+  use-of k m t = let q = part p h i k l m t in (q, uses p (c .state) i k e (q .component<) t)
 
   fired-location : (k : ℕ) → k < 16 → locationOk p (fired p (c .state) i) k ≡ true
   unfolding locationOk fired transitionOk
@@ -146,7 +135,7 @@ module _ (p : Plan) (h : Accepted p) (c : Configuration) (g : Sound p c) (i : �
       (bool-cases (takesPart p i k)
       (λ t.
       let u = use-of k m t in
-      let r = each _ (h .transition (used p (c .state) i k) (u .1 .transition<)) in
+      let r = each _ (h .transition (used p (c .state) i k) (u .1 .known)) in
       rw (t, lt-ltb k (components p) (u .0 .component<)) (rw (u .1 .own) at (r .1 .1 .1 .0)))
       (λ t. rw t (g .location k m)))
 
@@ -181,7 +170,7 @@ module _ (p : Plan) (h : Accepted p) (c : Configuration) (g : Sound p c) (i : �
       let u = use-of n m t in
       rw t
       (acted-valued p (ownedBy p (componentOf p (used p (c .state) i n))) (actionOf p (used p (c .state) i n)) r
-      (action-ok p h (used p (c .state) i n) (u .1 .transition<)) (owned-low (componentOf p (used p (c .state) i n))) before))
+      (action-ok p h (used p (c .state) i n) (u .1 .known)) (owned-low (componentOf p (used p (c .state) i n))) before))
       (λ t. rw t before)
 
   pub sound-after : Sound p (after p c i)
