@@ -15,7 +15,7 @@ isRun p c [] = true
 isRun p c (i ∷ is) =
     allOf (ltb i (interactions p) ∷ enabled p (c .state) i ∷ not (outranked p (c .state) i) ∷ good p (after p c i) ∷ isRun p (after p c i) is ∷ [])
 
--- An answer of this kind: 1 committed, 2 cancelled, 4 penned.
+-- The answer is a commit: kind 1.
 abbrev pub commits : Answer → Bool
 commits a = eqb (a .kind) 1
 

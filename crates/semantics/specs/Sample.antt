@@ -57,8 +57,8 @@ written t =
 abbrev pub span : ℕ → ℕ → List ℕ
 span start size = half start ++ half size
 
-abbrev pub none : List ℕ
-none = span 0 0
+abbrev pub emptySpan : List ℕ
+emptySpan = span 0 0
 
 -- Transition of the scale, component 0: source, port, destination, guard, action.
 abbrev pub transition : ℕ → ℕ → ℕ → List ℕ → List ℕ → List ℕ
@@ -66,7 +66,7 @@ transition from port to guard action = (0 ∷ from ∷ port ∷ to ∷ []) ++ gu
 
 -- Interaction through one port of the scale, guard and transfer empty.
 abbrev pub interaction : ℕ → List ℕ
-interaction port = port ∷ replicate 15 255 ++ none ++ none
+interaction port = port ∷ replicate 15 255 ++ emptySpan ++ emptySpan
 
 -- "The scale has locations 0 empty, 1 tared, 2 weighed, starts at 0, and has ports 0 tare, 1 gross, 2 leave. Variable 0, the tare, starts at 0. .."
 -- with what the cases change: the starting location, the guard of transition 0, whether there are transitions, the rank rows and the code past word 9.
@@ -87,18 +87,18 @@ scale startLocation transitions rank1 more =
 
 -- "Transitions (source, port, destination): 0 (0, 1, 2); 1 (0, 0, 1), action words 0–2; 2 (1, 1, 2); 3 (2, 2, 0), action words 3–4."
 abbrev pub moves : List ℕ → List (List ℕ)
-moves guard0 = transition 0 1 2 guard0 none ∷ transition 0 0 1 none (span 0 3) ∷ transition 1 1 2 none none ∷ transition 2 2 0 none (span 3 2) ∷ []
+moves guard0 = transition 0 1 2 guard0 emptySpan ∷ transition 0 0 1 emptySpan (span 0 3) ∷ transition 1 1 2 emptySpan emptySpan ∷ transition 2 2 0 emptySpan (span 3 2) ∷ []
 
 unfoldable pub sample : Plan
-sample = written (scale 0 (moves none) (leBytes 8 0) [])
+sample = written (scale 0 (moves emptySpan) (leBytes 8 0) [])
 
 -- Case 9: "With interaction 1 below 0".
 unfoldable pub ranked : Plan
-ranked = written (scale 0 (moves none) (leBytes 8 1) [])
+ranked = written (scale 0 (moves emptySpan) (leBytes 8 1) [])
 
 -- Case 10: "With starting location 2".
 unfoldable pub weighedAtStart : Plan
-weighedAtStart = written (scale 2 (moves none) (leBytes 8 0) [])
+weighedAtStart = written (scale 2 (moves emptySpan) (leBytes 8 0) [])
 
 -- Case 11: "With T 0, no transition records, and offsets and length to match".
 unfoldable pub still : Plan
