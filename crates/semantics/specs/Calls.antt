@@ -122,6 +122,10 @@ performed p b settle = settled p b
 unfoldable pub called : Plan → Image → Call → Outcome
 called p b k = unlessRefused (refusal (callRules p b k)) b (performed p b k)
 
+-- "the offered bits come from a second call, which returns 0 when refused".
+unfoldable pub offeredBits : Plan → Image → ℕ
+offeredBits p b = called p b offered .answer .bits
+
 -- A sequence of calls, each handed the bytes that the last one left.
 unfoldable pub calledAll : Plan → Image → List Call → List Outcome
 calledAll p b [] = []

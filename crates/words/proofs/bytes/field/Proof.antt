@@ -2,39 +2,28 @@ use Rattle.semantics.specs.Bytes.{u16}
 use borrow.Author.Needs.{needs}
 use Rattle.words.proofs.bytes.field.Statement.{statement}
 use Rattle.words.proofs.bytes.field.Tie as tie
-use Rattle.words.proofs.bytes.field.Reads as reads
-use Rattle.words.proofs.bytes.field.Lts as lts
-use Rattle.words.proofs.bytes.wide.Reads as wide-reads
 
--- src/bytes.rt:45:10
 shared-slice-read-wide : tie.Need-shared-slice-read-wide
 shared-slice-read-wide c = search needs
 
--- src/bytes.rt:45:5
 wide-requires : tie.Need-wide-requires
 wide-requires c κs = search needs
 
--- src/bytes.rt:45:26
 add-wide : tie.Need-add-wide
 add-wide c = search needs
 
--- src/bytes.rt:45:24
 shared-slice-read-wide-2 : tie.Need-shared-slice-read-wide-2
 shared-slice-read-wide-2 c = search needs
 
--- src/bytes.rt:45:19
 wide-requires-2 : tie.Need-wide-requires-2
 wide-requires-2 c κs = search needs
 
--- src/bytes.rt:45:19
 mul-result : tie.Need-mul-result
 mul-result c = search needs
 
--- src/bytes.rt:45:5
 add-result : tie.Need-add-result
 add-result c = search needs
 
--- src/bytes.rt:41:1
 returns : tie.Need-returns
 unfolding u16
 returns c = search needs

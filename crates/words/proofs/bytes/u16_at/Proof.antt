@@ -2,39 +2,28 @@ use Rattle.semantics.specs.Bytes.{u16}
 use borrow.Author.Needs.{needs}
 use Rattle.words.proofs.bytes.u16_at.Statement.{statement}
 use Rattle.words.proofs.bytes.u16_at.Tie as tie
-use Rattle.words.proofs.bytes.u16_at.Reads as reads
-use Rattle.words.proofs.bytes.u16_at.Lts as lts
-use Rattle.words.proofs.bytes.wide16.Reads as wide16-reads
 
--- src/bytes.rt:37:12
 shared-slice-read-wide16 : tie.Need-shared-slice-read-wide16
 shared-slice-read-wide16 c = search needs
 
--- src/bytes.rt:37:5
 wide16-requires : tie.Need-wide16-requires
 wide16-requires c κs = search needs
 
--- src/bytes.rt:37:30
 add-wide16 : tie.Need-add-wide16
 add-wide16 c = search needs
 
--- src/bytes.rt:37:28
 shared-slice-read-wide16-2 : tie.Need-shared-slice-read-wide16-2
 shared-slice-read-wide16-2 c = search needs
 
--- src/bytes.rt:37:21
 wide16-requires-2 : tie.Need-wide16-requires-2
 wide16-requires-2 c κs = search needs
 
--- src/bytes.rt:37:21
 mul-result : tie.Need-mul-result
 mul-result c = search needs
 
--- src/bytes.rt:37:5
 add-result : tie.Need-add-result
 add-result c = search needs
 
--- src/bytes.rt:33:1
 returns : tie.Need-returns
 unfolding u16
 returns c = search needs

@@ -2,79 +2,58 @@ use Rattle.semantics.specs.Bytes.{u32}
 use borrow.Author.Needs.{needs}
 use Rattle.words.proofs.bytes.u32_at.Statement.{statement}
 use Rattle.words.proofs.bytes.u32_at.Tie as tie
-use Rattle.words.proofs.bytes.u32_at.Reads as reads
-use Rattle.words.proofs.bytes.u32_at.Lts as lts
-use Rattle.words.proofs.bytes.wide32.Reads as wide32-reads
 
--- src/bytes.rt:52:12
 shared-slice-read-wide32 : tie.Need-shared-slice-read-wide32
 shared-slice-read-wide32 c = search needs
 
--- src/bytes.rt:52:5
 wide32-requires : tie.Need-wide32-requires
 wide32-requires c κs = search needs
 
--- src/bytes.rt:52:30
 add-wide32 : tie.Need-add-wide32
 add-wide32 c = search needs
 
--- src/bytes.rt:52:28
 shared-slice-read-wide32-2 : tie.Need-shared-slice-read-wide32-2
 shared-slice-read-wide32-2 c = search needs
 
--- src/bytes.rt:52:21
 wide32-requires-2 : tie.Need-wide32-requires-2
 wide32-requires-2 c κs = search needs
 
--- src/bytes.rt:52:21
 mul-result : tie.Need-mul-result
 mul-result c = search needs
 
--- src/bytes.rt:52:5
 add-result : tie.Need-add-result
 add-result c = search needs
 
--- src/bytes.rt:52:56
 add-wide32-2 : tie.Need-add-wide32-2
 add-wide32-2 c = search needs
 
--- src/bytes.rt:52:54
 shared-slice-read-wide32-3 : tie.Need-shared-slice-read-wide32-3
 shared-slice-read-wide32-3 c = search needs
 
--- src/bytes.rt:52:47
 wide32-requires-3 : tie.Need-wide32-requires-3
 wide32-requires-3 c κs = search needs
 
--- src/bytes.rt:52:47
 mul-result-2 : tie.Need-mul-result-2
 mul-result-2 c = search needs
 
--- src/bytes.rt:52:5
 add-result-2 : tie.Need-add-result-2
 add-result-2 c = search needs
 
--- src/bytes.rt:52:84
 add-wide32-3 : tie.Need-add-wide32-3
 add-wide32-3 c = search needs
 
--- src/bytes.rt:52:82
 shared-slice-read-wide32-4 : tie.Need-shared-slice-read-wide32-4
 shared-slice-read-wide32-4 c = search needs
 
--- src/bytes.rt:52:75
 wide32-requires-4 : tie.Need-wide32-requires-4
 wide32-requires-4 c κs = search needs
 
--- src/bytes.rt:52:75
 mul-result-3 : tie.Need-mul-result-3
 mul-result-3 c = search needs
 
--- src/bytes.rt:52:5
 add-result-3 : tie.Need-add-result-3
 add-result-3 c = search needs
 
--- src/bytes.rt:48:1
 returns : tie.Need-returns
 unfolding u32
 returns c = search needs

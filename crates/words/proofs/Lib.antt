@@ -1,0 +1,4 @@
+pub mod BitLaws
+pub mod MaskWalk
+pub mod SpliceLaws
+pub mod TestLaws
