@@ -1,0 +1,3 @@
+pub mod Magnitude
+pub mod SignTest
+pub mod Signed32
