@@ -1,5 +1,5 @@
 -- A walk over a mask, lowest number first: what is left of the mask m, and that the test f holds at each number of m that the walk has passed.
-use mathlib.Core.Path.{_≡_, refl, sym, ap, ap₂, _∙_, subst}
+use mathlib.Core.Path.{_≡_, refl, sym, ap, _∙_}
 use Prim.Native.Nat.{ℕ, _≤_, _<_, _^_}
 use native.Mathlib.Nat.{le-refl, le-trans, le-of-lt, lt-of-le-of-lt}
 use mathlib.Core.Bool.{Bool, true, false, not, _&&_, false≢true}

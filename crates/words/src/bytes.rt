@@ -48,6 +48,7 @@ pub fn field(s: &[u8], at: usize) -> usize
     wide(s[at]) + wide(s[at + 1]) * 256
 }
 
+// Thirty-two bits at a place.
 pub fn u32_at(s: &[u8], at: usize) -> u32
     requires { ⌜ at + 4 ≤ length (now s) ⌝ }
     ensures { λ r. ⌜ r ≡ u32 (now (s .entry)) at ⌝ }
@@ -58,6 +59,7 @@ pub fn u32_at(s: &[u8], at: usize) -> u32
         + wide32(s[at + 3]) * 16777216
 }
 
+// Sixty-four bits at a place.
 pub fn u64_at(s: &[u8], at: usize) -> u64
     requires { ⌜ at + 8 ≤ length (now s) ⌝ }
     ensures { λ r. ⌜ r ≡ u64 (now (s .entry)) at ⌝ }
@@ -65,7 +67,7 @@ pub fn u64_at(s: &[u8], at: usize) -> u64
     wide64(u32_at(s, at)) + wide64(u32_at(s, at + 4)) * 4294967296
 }
 
-// Four bytes of x from a place on.
+// Writes x as four bytes from a place on.
 pub fn put_u32(s: &mut [u8], at: usize, x: u32)
     requires { ⌜ at + 4 ≤ length (now s) ⌝ }
     ensures { λ r. ⌜ now (s .exit) ≡ splice (now (s .entry)) at (leBytes 4 x) ⌝ }
@@ -76,7 +78,7 @@ pub fn put_u32(s: &mut [u8], at: usize, x: u32)
     s[at + 3] = (x >> 24) as u8;
 }
 
-// Eight bytes of x from a place on.
+// Writes x as eight bytes from a place on.
 pub fn put_u64(s: &mut [u8], at: usize, x: u64)
     requires { ⌜ at + 8 ≤ length (now s) ⌝ }
     ensures { λ r. ⌜ now (s .exit) ≡ splice (now (s .entry)) at (leBytes 8 x) ⌝ }
@@ -85,7 +87,7 @@ pub fn put_u64(s: &mut [u8], at: usize, x: u64)
     put_u32(s, at + 4, (x >> 32) as u32);
 }
 
-// The bytes of src from a place on.
+// Writes the bytes of src from a place on.
 pub fn put_bytes(s: &mut [u8], at: usize, src: &[u8])
     requires { ⌜ at + length (now src) ≤ length (now s) ⌝ }
     ensures { λ r. ⌜ now (s .exit) ≡ splice (now (s .entry)) at (now (src .entry)) ⌝ }

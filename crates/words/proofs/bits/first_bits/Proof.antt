@@ -5,22 +5,16 @@ use Prim.Native.Nat.{_<_}
 use borrow.Author.Needs.{needs}
 use Rattle.words.proofs.bits.first_bits.Statement.{statement}
 use Rattle.words.proofs.bits.first_bits.Tie as tie
-use Rattle.words.proofs.bits.first_bits.Reads as reads
-use Rattle.words.proofs.bits.first_bits.Lts as lts
 
--- src/bits.rt:72:9
 returns : tie.Need-returns
 returns c = λ j. rw (c .if1 .taken) (bit-ones 64 j)
 
--- src/bits.rt:74:6
 shl-result : tie.Need-shl-result
 shl-result c = search needs
 
--- src/bits.rt:74:5
 sub-result : tie.Need-sub-result
 sub-result c = let h : c .before .args .n < 64 = omega arith in rw (one-shl 64 (c .before .args .n) h) (pow-pos (c .before .args .n))
 
--- src/bits.rt:67:1
 returns-2 : tie.Need-returns-2
 returns-2 c = λ j. let h : c .before .args .n < 64 = omega arith in rw (one-shl 64 (c .before .args .n) h) (bit-ones (c .before .args .n) j)
 

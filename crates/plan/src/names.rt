@@ -1,0 +1,63 @@
+// The variables that a span may name, as 64-bit masks.
+ghost use mathlib.Core.Path.{_≡_};
+ghost use Prim.Native.Nat.{ℕ, _<_};
+ghost use mathlib.Core.Bool.{true};
+ghost use Rattle.semantics.specs.Bytes.{bit, every};
+ghost use Rattle.semantics.specs.Plan.{variables, interactions};
+ghost use Rattle.semantics.specs.Code.{sharedIn, declared};
+ghost use Rattle.semantics.specs.Rules.{variableOk};
+ghost use Rattle.code.specs.Laid.{Laid};
+ghost use Rattle.plan.specs.Owned.{Owned};
+
+// The variables that each component owns.
+pub fn owned_masks(plan: &[u8]) -> [u64; 16]
+    requires { ⌜ Laid (now plan) ⌝ }
+    requires { ⌜ every (variables (now plan)) (variableOk (now plan)) ≡ true ⌝ }
+    ensures { λ r. ⌜ Owned (now (plan .entry)) r ⌝ }
+{
+    let count = words::bytes::field(plan, 12);
+    let start = words::bytes::field(plan, 28);
+    let mut out = [0u64; 16];
+    let mut v = 0;
+    while v < count {
+        let owner = words::bytes::wide(plan[start + 8 * v]);
+        out[owner] = words::bits::with_bit(out[owner], v);
+        v = v + 1;
+    }
+    out
+}
+
+// A component's mask where it takes part, none else.
+fn part(port: u8, mask: u64) -> u64
+    ensures { λ r. ⌜ r ≡ Rattle.plan.specs.Owned.partMask port mask ⌝ }
+{
+    if port == 255 {
+        return 0;
+    }
+    mask
+}
+
+// The variables of the components that take part in interaction i.
+pub fn shared_mask(plan: &[u8], owned: &[u64; 16], i: usize) -> u64
+    requires { ⌜ Laid (now plan) ⌝ }
+    requires { ⌜ (i < interactions (now plan)) × Owned (now plan) (now owned) ⌝ }
+    ensures { λ r. ⌜ ((v : ℕ) → bit r v ≡ sharedIn (now (plan .entry)) i v) ⌝ }
+{
+    let at = words::bytes::field(plan, 32) + 24 * i;
+    let mut mask = 0;
+    let mut c = 0;
+    while c < 16 {
+        mask = mask | part(plan[at + c], owned[c]);
+        c = c + 1;
+    }
+    mask
+}
+
+// All the plan's variables.
+pub fn all_mask(plan: &[u8]) -> u64
+    requires { ⌜ Laid (now plan) ⌝ }
+    ensures { λ r. ⌜ ((v : ℕ) → bit r v ≡ declared (now (plan .entry)) v) ⌝ }
+{
+    let count = words::bytes::field(plan, 12);
+    words::bits::first_bits(count)
+}
