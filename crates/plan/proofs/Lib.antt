@@ -1,2 +1,8 @@
+pub mod Arms
+pub mod Conjunctions
+pub mod Counted
+pub mod Filled
 pub mod NameLaws
+pub mod OracleRows
+pub mod Ports
 pub mod RankRows

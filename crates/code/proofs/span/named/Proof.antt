@@ -1,0 +1,25 @@
+use Rattle.words.proofs.BitLaws.{bit-above}
+use Rattle.semantics.proofs.Basics.{le-ltb}
+use native.Mathlib.Omega.{arith}
+use mathlib.Core.Path.{sym, _∙_}
+use borrow.Author.Needs.{needs}
+use Rattle.code.proofs.span.named.Statement.{statement}
+use Rattle.code.proofs.span.named.Tie as tie
+use Rattle.code.proofs.span.named.Reads as reads
+use Rattle.code.proofs.span.named.Lts as lts
+use Rattle.words.proofs.bits.bit.Reads as bit-reads
+
+-- src/span.rt:29:15
+bit-requires : tie.Need-bit-requires
+bit-requires c κs = search needs
+
+-- src/span.rt:26:1
+returns : tie.Need-returns
+returns c = search needs
+
+-- src/span.rt:26:1
+returns-2 : tie.Need-returns-2
+returns-2 c = le-ltb _ 64 (c .if1 .left) ∙ sym (bit-above 64 _ _ (omega arith) (c .if1 .left))
+
+pub named-spec : {M : Type 1} → statement M
+named-spec = tie.close (tie.spec bit-requires returns returns-2)
