@@ -1,17 +1,16 @@
 -- The depth that the rules of a span count, as the checker holds it: 99 where a rule is broken.
 use mathlib.Core.Path.{_≡_, refl, sym, ap, _∙_, subst}
-use Prim.Native.Nat.{ℕ, zero, suc, _+_, _-_, _≤_, _<_}
+use Prim.Native.Nat.{ℕ, suc, _+_, _-_, _≤_, _<_}
 use native.Mathlib.Nat.{lt-irrefl, le-trans}
 use native.Mathlib.Numerals.{add-one}
 use native.Mathlib.Omega.{arith}
 use mathlib.Core.Bool.{Bool, true, false, not, cond, _&&_}
-use mathlib.Core.List.{[], _∷_}
 use mathlib.Core.Option.{Option, none, some, Option·none-ne-some}
 use lib.ListN.{List·getD-eq-default}
 use lib.Dec.{leb, eqb}
 use Rattle.semantics.specs.Bytes.{allOf}
 use Rattle.semantics.specs.Plan.{Plan, Span, codeWords, word}
-use Rattle.semantics.specs.Code.{Instruction, push, extendTop, load, store, located, lastPort, operator, unknown, instruction, decode, Role, allowed, pops, pushes, shifted, deeper, depth, finalDepth, endsAt, spanOk}
+use Rattle.semantics.specs.Code.{unknown, instruction, decode, Role, allowed, shifted, deeper, depth, finalDepth, endsAt, spanOk}
 use Rattle.semantics.proofs.Basics.{le-leb, lt-leb, eq-eqb, ne-eqb}
 use Rattle.semantics.proofs.Spans.{depth-before, depth-low}
 use Rattle.code.specs.Depth.{broken, number, capped}
@@ -34,15 +33,6 @@ shift-enough need give d h = rw (le-leb need d h) (by-room (leb (d - need + give
     by-room : (b : Bool) → cond b (d - need + give) broken ≡ number (cond (b && true) (some (d - need + give)) none)
     by-room true = refl
     by-room false = refl
-
--- no number below n
-abbrev pub Rest : ℕ → ℕ → Type 0
-Rest zero k = Unit {0}
-Rest (suc n) k = Rest n k × (k ≡ n → ⊥)
-
-pub past : (n k : ℕ) → Rest n k → n ≤ k
-past zero k r = omega arith
-past (suc n) k r = let h : n ≤ k = past n k (r .0) in let d = r .1 in omega arith
 
 -- kinds past 6 break the rules
 pub kind-past : (p : Plan) (r : Role) (names : ℕ → Bool) (k n d : ℕ) → 7 ≤ k → capped broken ≡ number (deeper p r names (instruction k n) (some d))
@@ -121,9 +111,9 @@ module _ (p : Plan) (r : Role) (names : ℕ → Bool) (g : Span) where
       third-decides (le-leb (g .size) 64 h) (le-leb (g .start + g .size) (codeWords p) l)
       (ap (λ (b : Bool). cond b (not (r .looks)) (endsAt (finalDepth r) (depth p r names (g .start) (g .size)))) (sym (eq-eqb (g .size) 0 e)))
 
-  pub span-words : g .size ≤ 64 → g .start + g .size ≤ codeWords p → (g .size ≡ 0 → ⊥)
+  pub span-words : g .size ≤ 64 → g .start + g .size ≤ codeWords p → 0 < g .size
       → endsAt (finalDepth r) (depth p r names (g .start) (g .size)) ≡ spanOk p r names g
   unfolding spanOk
   span-words h l e =
       third-decides (le-leb (g .size) 64 h) (le-leb (g .start + g .size) (codeWords p) l)
-      (ap (λ (b : Bool). cond b (not (r .looks)) (endsAt (finalDepth r) (depth p r names (g .start) (g .size)))) (sym (ne-eqb (g .size) 0 e)))
+      (ap (λ (b : Bool). cond b (not (r .looks)) (endsAt (finalDepth r) (depth p r names (g .start) (g .size)))) (sym (ne-eqb (g .size) 0 (λ z. lt-irrefl 0 (subst (λ (x : ℕ). 0 < x) z e)))))

@@ -1,2 +1,4 @@
 pub mod Depth
+pub mod Held
 pub mod Laid
+pub mod Taken

@@ -20,7 +20,7 @@ const POPS: [u8; 8] = [2, 2, 2, 2, 2, 2, 1, 2];
 
 const PUSHES: [u8; 8] = [1, 1, 1, 1, 1, 1, 1, 1];
 
-// The depth where a rule is broken.
+// The depth where a rule is broken; any depth past 8 says the same.
 const BROKEN: usize = 99;
 
 // Whether bit n of a mask of names is set.
@@ -130,6 +130,13 @@ fn deepen(plan: &[u8], stores: bool, looks: bool, names: u64, d: usize, w: u16) 
     )
 }
 
+// The depth at which a span ends.
+fn final_depth(stores: bool) -> usize
+    ensures { λ r. ⌜ r ≡ cond stores 0 1 ⌝ }
+{
+    if stores { 0 } else { 1 }
+}
+
 // Whether the words from a start on keep the rules and end at the depth that they must.
 fn words_ok(plan: &[u8], stores: bool, looks: bool, names: u64, start: usize, size: usize) -> bool
     requires { ⌜ Laid (now plan) ⌝ }
@@ -153,13 +160,6 @@ fn words_ok(plan: &[u8], stores: bool, looks: bool, names: u64, start: usize, si
         i += 1;
     }
     d == final_depth(stores)
-}
-
-// The depth at which a span ends.
-fn final_depth(stores: bool) -> usize
-    ensures { λ r. ⌜ r ≡ cond stores 0 1 ⌝ }
-{
-    if stores { 0 } else { 1 }
 }
 
 // Whether the span at a place of the plan keeps the rules.

@@ -1,104 +1,83 @@
+use Rattle.code.specs.Depth.{number}
+use Rattle.semantics.specs.Code.{shifted}
+use mathlib.Core.Bool.{Bool, _&&_}
+use mathlib.Core.Path.{ap, _∙_}
 use Rattle.semantics.specs.Bytes.{bit}
-use Rattle.code.proofs.Depths.{past, kind-past}
+use Rattle.code.proofs.Depths.{kind-past}
+use Rattle.code.proofs.MatchRest.{past}
 use Rattle.code.proofs.Tests.{both-hold}
 use Rattle.semantics.specs.Code.{instruction, deeper, allowed, pops, pushes}
-use mathlib.Core.Path.{sym}
 use borrow.Author.Needs.{needs}
 use Rattle.code.proofs.span.by_kind.Statement.{statement}
 use Rattle.code.proofs.span.by_kind.Tie as tie
-use Rattle.code.proofs.span.by_kind.Reads as reads
-use Rattle.code.proofs.span.by_kind.Lts as lts
-use Rattle.code.proofs.span.may_ask_place.Reads as may-ask-place-reads
-use Rattle.code.proofs.span.may_ask_port.Reads as may-ask-port-reads
-use Rattle.code.proofs.span.named.Reads as named-reads
-use Rattle.code.proofs.span.operator.Reads as operator-reads
-use Rattle.code.proofs.span.shift.Reads as shift-reads
 
--- src/span.rt:102:14
 shift-requires : tie.Need-shift-requires
 shift-requires c κs = search needs
 
--- src/span.rt:103:14
 shift-requires-2 : tie.Need-shift-requires-2
 shift-requires-2 c κs = search needs
 
--- src/span.rt:104:20
 named-requires : tie.Need-named-requires
 named-requires c κs = search needs
 
--- src/span.rt:104:14
 shift-requires-3 : tie.Need-shift-requires-3
 shift-requires-3 c κs = search needs
 
--- src/span.rt:105:29
 named-requires-2 : tie.Need-named-requires-2
 named-requires-2 c κs = search needs
 
--- src/span.rt:105:14
 shift-requires-4 : tie.Need-shift-requires-4
 shift-requires-4 c κs = search needs
 
--- src/span.rt:106:20
 may-ask-place-requires : tie.Need-may-ask-place-requires
 may-ask-place-requires c κs = search needs
 
--- src/span.rt:106:14
 shift-requires-5 : tie.Need-shift-requires-5
 shift-requires-5 c κs = search needs
 
--- src/span.rt:107:20
 may-ask-port-requires : tie.Need-may-ask-port-requires
 may-ask-port-requires c κs = search needs
 
--- src/span.rt:107:14
 shift-requires-6 : tie.Need-shift-requires-6
 shift-requires-6 c κs = search needs
 
--- src/span.rt:108:14
 operator-requires : tie.Need-operator-requires
 operator-requires c κs = search needs
 
--- src/span.rt:96:1
 returns : tie.Need-returns
 unfolding instruction deeper allowed pops pushes
 returns c = rw (c .before .match .keys1) (c .shift .ensures)
 
--- src/span.rt:96:1
 returns-2 : tie.Need-returns-2
 unfolding instruction deeper allowed pops pushes
 returns-2 c = rw (c .before .match .keys2) (c .shift2 .ensures)
 
--- src/span.rt:96:1
 returns-3 : tie.Need-returns-3
 unfolding instruction deeper allowed pops pushes
 returns-3 c = rw (c .before .before .match .keys3) (rw (c .before .named .ensures) at (c .shift3 .ensures))
 
--- src/span.rt:96:1
 returns-4 : tie.Need-returns-4
 unfolding instruction deeper allowed pops pushes
 returns-4 c = let a = c .before .before .before .before .args in
-    rw (c .before .before .match .keys4) (rw (c .before .named2 .ensures, both-hold (a .stores) (bit (a .names) (a .n))) at (c .shift4 .ensures))
+    rw (c .before .before .match .keys4)
+    (c .shift4 .ensures ∙ ap (λ (b : Bool). number (shifted b 1 0 (a .d)))
+    (ap (λ (b : Bool). a .stores && b) (c .before .named2 .ensures) ∙ both-hold (a .stores) (bit (a .names) (a .n))))
 
--- src/span.rt:96:1
 returns-5 : tie.Need-returns-5
 unfolding instruction deeper allowed pops pushes
 returns-5 c = rw (c .before .before .match .keys5) (rw (c .before .may-ask-place .ensures) at (c .shift5 .ensures))
 
--- src/span.rt:96:1
 returns-6 : tie.Need-returns-6
 unfolding instruction deeper allowed pops pushes
 returns-6 c = rw (c .before .before .match .keys6) (rw (c .before .may-ask-port .ensures) at (c .shift6 .ensures))
 
--- src/span.rt:96:1
 returns-7 : tie.Need-returns-7
 unfolding instruction deeper allowed pops pushes
 returns-7 c = rw (c .before .match .keys7) (c .operator .ensures)
 
--- src/span.rt:96:1
 returns-8 : tie.Need-returns-8
 returns-8 c = kind-past _ _ _ _ _ _ (past 7 _ (c .before .match .rest))
 
--- src/span.rt:96:1
 returns-9 : tie.Need-returns-9
 returns-9 c = kind-past _ _ _ _ _ _ (past 7 _ (c .before .match .rest))
 

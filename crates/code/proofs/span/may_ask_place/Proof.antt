@@ -9,46 +9,33 @@ use mathlib.Core.Path.{ap, ap₂, _∙_}
 use borrow.Author.Needs.{needs}
 use Rattle.code.proofs.span.may_ask_place.Statement.{statement}
 use Rattle.code.proofs.span.may_ask_place.Tie as tie
-use Rattle.code.proofs.span.may_ask_place.Reads as reads
-use Rattle.code.proofs.span.may_ask_place.Lts as lts
-use Rattle.words.proofs.bytes.field.Reads as field-reads
-use Rattle.words.proofs.bytes.wide.Reads as wide-reads
 
--- src/span.rt:39:9
 returns : tie.Need-returns
 returns c = first-fails _ (not-yes (c .before .before .args .looks) (c .if1 .taken))
 
--- src/span.rt:42:13
 field-requires : tie.Need-field-requires
 field-requires c κs = search needs
 
--- src/span.rt:43:9
 returns-2 : tie.Need-returns-2
 returns-2 c = let a = c .before .before .before .before .args in
     second-fails _ (not-no (a .looks) (c .before .before .if1 .left))
     (le-ltb (a .n / 256) (components (a .plan .now)) (rw (c .before .field .ensures .0) at (c .if2 .taken)))
 
--- src/span.rt:45:34
 field-requires-2 : tie.Need-field-requires-2
 field-requires-2 c κs = search needs
 
--- src/span.rt:45:59
 mul-wide : tie.Need-mul-wide
 mul-wide c = search needs
 
--- src/span.rt:45:34
 add-wide : tie.Need-add-wide
 add-wide c = search needs
 
--- src/span.rt:45:29
 shared-slice-read-wide : tie.Need-shared-slice-read-wide
 shared-slice-read-wide c = search needs
 
--- src/span.rt:45:17
 wide-requires : tie.Need-wide-requires
 wide-requires c κs = search needs
 
--- src/span.rt:32:1
 returns-3 : tie.Need-returns-3
 returns-3 c = let e = c .before .before .before in let o = e .before .before in let a = o .before .before .args in
     third-decides (not-no (a .looks) (o .if1 .left))

@@ -1,40 +1,28 @@
 use Rattle.semantics.specs.Code.{operatorPops, operatorPushes}
 use Rattle.code.proofs.Depths.{shift-no}
 use Rattle.semantics.proofs.Basics.{le-ltb, lt-ltb}
-use mathlib.Core.Path.{sym}
 use borrow.Author.Needs.{needs}
 use Rattle.code.proofs.span.operator.Statement.{statement}
 use Rattle.code.proofs.span.operator.Tie as tie
-use Rattle.code.proofs.span.operator.Reads as reads
-use Rattle.code.proofs.span.operator.Lts as lts
-use Rattle.code.proofs.span.shift.Reads as shift-reads
-use Rattle.words.proofs.bytes.wide.Reads as wide-reads
 
--- src/span.rt:90:9
 returns : tie.Need-returns
 returns c = rw (le-ltb (c .before .args .n) 8 (c .if1 .taken)) (shift-no _ _ _)
 
--- src/span.rt:92:29
 array-read-wide : tie.Need-array-read-wide
 array-read-wide c = search needs
 
--- src/span.rt:92:17
 wide-requires : tie.Need-wide-requires
 wide-requires c κs = search needs
 
--- src/span.rt:92:51
 array-read-wide-2 : tie.Need-array-read-wide-2
 array-read-wide-2 c = search needs
 
--- src/span.rt:92:39
 wide-requires-2 : tie.Need-wide-requires-2
 wide-requires-2 c κs = search needs
 
--- src/span.rt:92:5
 shift-requires : tie.Need-shift-requires
 shift-requires c κs = search needs
 
--- src/span.rt:85:1
 returns-2 : tie.Need-returns-2
 unfolding operatorPops operatorPushes
 returns-2 c = let b = c .before .before in

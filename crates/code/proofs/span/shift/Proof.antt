@@ -1,25 +1,18 @@
 use Rattle.code.proofs.Depths.{shift-no, shift-short, shift-enough}
 use Rattle.semantics.proofs.Basics.{not-yes, not-no}
-use mathlib.Core.Path.{sym}
 use borrow.Author.Needs.{needs}
 use Rattle.code.proofs.span.shift.Statement.{statement}
 use Rattle.code.proofs.span.shift.Tie as tie
-use Rattle.code.proofs.span.shift.Reads as reads
-use Rattle.code.proofs.span.shift.Lts as lts
 
--- src/span.rt:72:9
 returns : tie.Need-returns
 returns c = rw (not-yes (c .before .args .ok) (c .if1 .taken)) (shift-no _ _ _)
 
--- src/span.rt:75:9
 returns-2 : tie.Need-returns-2
 returns-2 c = rw (not-no (c .before .before .args .ok) (c .before .if1 .left)) (shift-short _ _ _ (c .if2 .taken))
 
--- src/span.rt:77:5
 add-result : tie.Need-add-result
 add-result c = search needs
 
--- src/span.rt:67:1
 returns-3 : tie.Need-returns-3
 returns-3 c = rw (not-no (c .before .before .args .ok) (c .before .if1 .left)) (shift-enough _ _ _ (c .if2 .left))
 

@@ -1,12 +1,8 @@
 use native.Mathlib.Omega.{arith}
 use lib.Bits.{and-mask}
-use borrow.Author.Needs.{needs}
 use Rattle.code.proofs.word.operand.Statement.{statement}
 use Rattle.code.proofs.word.operand.Tie as tie
-use Rattle.code.proofs.word.operand.Reads as reads
-use Rattle.code.proofs.word.operand.Lts as lts
 
--- src/word.rt:17:1
 returns : tie.Need-returns
 returns c = (and-mask (c .args .w) 12, omega (arith, and-mask (c .args .w) 12))
 

@@ -1,28 +1,19 @@
 use borrow.Author.Needs.{needs}
 use Rattle.code.proofs.word.word_at.Statement.{statement}
 use Rattle.code.proofs.word.word_at.Tie as tie
-use Rattle.code.proofs.word.word_at.Reads as reads
-use Rattle.code.proofs.word.word_at.Lts as lts
-use Rattle.words.proofs.bytes.field.Reads as field-reads
-use Rattle.words.proofs.bytes.u16_at.Reads as u16-at-reads
 
--- src/word.rt:29:25
 field-requires : tie.Need-field-requires
 field-requires c κs = search needs
 
--- src/word.rt:29:50
 mul-u16-at : tie.Need-mul-u16-at
 mul-u16-at c = search needs
 
--- src/word.rt:29:25
 add-u16-at : tie.Need-add-u16-at
 add-u16-at c = search needs
 
--- src/word.rt:29:5
 u16-at-requires : tie.Need-u16-at-requires
 u16-at-requires c κs = search needs
 
--- src/word.rt:24:1
 returns : tie.Need-returns
 returns c = rw (c .before .field .ensures .0) at (c .u16-at .ensures)
 

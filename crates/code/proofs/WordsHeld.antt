@@ -1,0 +1,105 @@
+-- One code word on the evaluator's machine, kind by kind: what it has, and what it does.
+use mathlib.Core.Path.{_≡_, refl, sym, ap, subst}
+use Prim.Native.Nat.{ℕ, _/_, _%_, _≤_, _<_}
+use mathlib.Core.List.{List, [], _∷_}
+use lib.ListN.{getD, set, drop, List·getD-eq-default}
+use lib.Dec.{eqb}
+use lib.IntN.{ℤ, pos}
+use Rattle.semantics.specs.Signed.{extend, truth}
+use Rattle.semantics.specs.Code.{State, Instruction, push, extendTop, load, store, located, lastPort, operator, unknown, instruction, operatorPops, Machine, perform}
+use Rattle.code.specs.Taken.{Fit}
+use Rattle.code.specs.Held.{combined}
+
+-- ---- what a word of a known kind has
+
+module _ (end k n d : ℕ) where
+  fit-at : (j : ℕ) → k ≡ j → Fit end (instruction k n) d → Fit end (instruction j n) d
+  fit-at j e f = subst (λ (x : ℕ). Fit end (instruction x n) d) e f
+
+  pub fit-push : k ≡ 0 → Fit end (instruction k n) d → d < 8
+  unfolding instruction
+  fit-push e f = fit-at 0 e f
+
+  pub fit-extend : k ≡ 1 → Fit end (instruction k n) d → (0 < d) × (d ≤ 8)
+  unfolding instruction
+  fit-extend e f = fit-at 1 e f
+
+  pub fit-load : k ≡ 2 → Fit end (instruction k n) d → (n < 64) × (d < 8)
+  unfolding instruction
+  fit-load e f = fit-at 2 e f
+
+  pub fit-store : k ≡ 3 → Fit end (instruction k n) d → (end ≡ 0) × (n < 64) × (0 < d) × (d ≤ 8)
+  unfolding instruction
+  fit-store e f = fit-at 3 e f
+
+  pub fit-located : k ≡ 4 → Fit end (instruction k n) d → (end ≡ 1) × (d < 8)
+  unfolding instruction
+  fit-located e f = fit-at 4 e f
+
+  pub fit-port : k ≡ 5 → Fit end (instruction k n) d → (end ≡ 1) × (d < 8)
+  unfolding instruction
+  fit-port e f = fit-at 5 e f
+
+  pub fit-operator : k ≡ 6 → Fit end (instruction k n) d → (n < 8) × (0 < d) × (operatorPops n ≤ d) × (d ≤ 8)
+  unfolding instruction
+  fit-operator e f = fit-at 6 e f
+
+-- ---- what it does to a machine with the stack xs and the values vs
+
+module _ (s : State) (k n : ℕ) (xs ys vs : List ℤ) where
+  did-at : (j : ℕ) (m : Machine) → k ≡ j → m ≡ perform (instruction j n) s (record { stack = xs; values = vs })
+      → m ≡ perform (instruction k n) s (record { stack = xs; values = vs })
+  did-at j m e h = subst (λ (x : ℕ). m ≡ perform (instruction x n) s (record { stack = xs; values = vs })) (sym e) h
+
+  -- a machine with the stack ys and the same values
+  stacked : (zs : List ℤ) → ys ≡ zs → _≡_ {A = Machine} (record { stack = ys; values = vs }) (record { stack = zs; values = vs })
+  stacked zs e = ap {B = Machine} (λ (l : List ℤ). record { stack = l; values = vs }) e
+
+  pub did-push : k ≡ 0 → ys ≡ pos n ∷ xs
+      → _≡_ {A = Machine} (record { stack = ys; values = vs }) (perform (instruction k n) s (record { stack = xs; values = vs }))
+  unfolding instruction perform
+  did-push e h = did-at 0 (record { stack = ys; values = vs }) e (stacked _ h)
+
+  pub did-extend : k ≡ 1 → ys ≡ extend (getD xs 0 (pos 0)) n ∷ drop 1 xs
+      → _≡_ {A = Machine} (record { stack = ys; values = vs }) (perform (instruction k n) s (record { stack = xs; values = vs }))
+  unfolding instruction perform
+  did-extend e h = did-at 1 (record { stack = ys; values = vs }) e (stacked _ h)
+
+  pub did-load : k ≡ 2 → ys ≡ getD vs n (pos 0) ∷ xs
+      → _≡_ {A = Machine} (record { stack = ys; values = vs }) (perform (instruction k n) s (record { stack = xs; values = vs }))
+  unfolding instruction perform
+  did-load e h = did-at 2 (record { stack = ys; values = vs }) e (stacked _ h)
+
+  pub did-store : k ≡ 3 → ys ≡ drop 1 xs
+      → _≡_ {A = Machine} (record { stack = ys; values = set vs n (getD xs 0 (pos 0)) }) (perform (instruction k n) s (record { stack = xs; values = vs }))
+  unfolding instruction perform
+  did-store e h =
+      did-at 3 (record { stack = ys; values = set vs n (getD xs 0 (pos 0)) }) e
+      (ap {B = Machine} (λ (l : List ℤ). record { stack = l; values = set vs n (getD xs 0 (pos 0)) }) h)
+
+  pub did-located : k ≡ 4 → ys ≡ truth (eqb (getD (s .locations) (n / 256) 0) (n % 256)) ∷ xs
+      → _≡_ {A = Machine} (record { stack = ys; values = vs }) (perform (instruction k n) s (record { stack = xs; values = vs }))
+  unfolding instruction perform
+  did-located e h = did-at 4 (record { stack = ys; values = vs }) e (stacked _ h)
+
+  pub did-port : k ≡ 5 → ys ≡ truth (eqb (getD (s .lastPorts) (n / 256) 0) (n % 256)) ∷ xs
+      → _≡_ {A = Machine} (record { stack = ys; values = vs }) (perform (instruction k n) s (record { stack = xs; values = vs }))
+  unfolding instruction perform
+  did-port e h = did-at 5 (record { stack = ys; values = vs }) e (stacked _ h)
+
+  pub did-operator : k ≡ 6 → ys ≡ combined n xs
+      → _≡_ {A = Machine} (record { stack = ys; values = vs }) (perform (instruction k n) s (record { stack = xs; values = vs }))
+  unfolding instruction perform
+  did-operator e h = did-at 6 (record { stack = ys; values = vs }) e (stacked _ h)
+
+-- no kind past 6 is known
+instruction-past : (k n : ℕ) → 7 ≤ k → instruction k n ≡ unknown
+unfolding instruction
+instruction-past k n h =
+    List·getD-eq-default
+    (push n ∷ extendTop n ∷ load n ∷ store n ∷ located (n / 256) (n % 256) ∷ lastPort (n / 256) (n % 256) ∷ operator n ∷ []) unknown h
+
+-- a word of such a kind does nothing
+pub did-nothing : (s : State) (k n : ℕ) (m : Machine) → 7 ≤ k → m ≡ perform (instruction k n) s m
+unfolding perform
+did-nothing s k n m h = subst (λ (i : Instruction). m ≡ perform i s m) (sym (instruction-past k n h)) refl

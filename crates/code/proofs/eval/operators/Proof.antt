@@ -1,0 +1,42 @@
+use borrow.Author.Needs.{needs}
+use Rattle.arith.proofs.Signed32.{back32}
+use Rattle.code.proofs.OperatorsHeld.{held-not, held-operated}
+use Rattle.code.proofs.eval.operators.Statement.{statement}
+use Rattle.code.proofs.eval.operators.Tie as tie
+
+sub-below : tie.Need-sub-below
+sub-below c = search needs
+
+mul-left : tie.Need-mul-left
+mul-left c = search needs
+
+element-copy-out-left : tie.Need-element-copy-out-left
+element-copy-out-left c = search needs
+
+operated-requires : tie.Need-operated-requires
+operated-requires c κs = search needs
+
+returns : tie.Need-returns
+returns c =
+    let o = c .before in
+    let t = o .before in
+    let l = t .before in
+    let s = l .before in
+    rw (back32 (o .operated .result) (o .operated .ok))
+    (held-not _ _ _ _ _ _ (c .if1 .taken) (s .pre .1)
+    (rw (back32 _ (l .left .given), back32 _ (t .struct-told .given .1 .0 .1)) at (o .operated .ensures)))
+
+returns-2 : tie.Need-returns-2
+returns-2 c =
+    let o = c .before in
+    let t = o .before in
+    let l = t .before in
+    let s = l .before in
+    rw (back32 (o .operated .result) (o .operated .ok))
+    (held-operated _ _ _ _ _ (s .pre .0) (c .if1 .left) (s .pre .2)
+    (rw (back32 _ (l .left .given), back32 _ (t .struct-told .given .1 .0 .1)) at (o .operated .ensures)))
+
+pub operators-spec : {M : Type 1} → statement M
+operators-spec =
+    tie.close
+    (tie.spec sub-below mul-left element-copy-out-left operated-requires returns returns-2)

@@ -1,0 +1,5 @@
+pub mod Every
+pub mod Filling
+pub mod Heads
+pub mod Rows
+pub mod Writing

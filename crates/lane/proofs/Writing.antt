@@ -1,0 +1,82 @@
+-- An image written part by part.
+use mathlib.Core.Path.{_≡_, refl, sym, ap, ap₂, _∙_}
+use Prim.Native.Nat.{ℕ, _+_, _*_, _≤_, _<_}
+use native.Mathlib.Nat.{add-zero}
+use native.Mathlib.Numerals.{add-one}
+use native.Mathlib.Omega.{arith}
+use mathlib.Core.List.{List, [], _∷_, _++_, append-assoc, append-nil}
+use lib.ListN.{length, getD, take, length-append, take-append-drop}
+use lib.Seq.{take-suc, length-take-le}
+use lib.IntN.{ℤ, pos}
+use Rattle.semantics.specs.Bytes.{leBytes}
+use Rattle.semantics.specs.Signed.{residue}
+use Rattle.semantics.specs.Plan.{Plan}
+use Rattle.semantics.specs.Move.{Configuration}
+use Rattle.semantics.specs.Image.{head, valueBytes, image, withMarks}
+use Rattle.semantics.proofs.Masks.{length-leBytes}
+use Rattle.words.specs.Splice.{splice}
+use Rattle.words.proofs.SpliceLaws.{splice-splice, splice-all, splice-next}
+
+-- nothing is written
+pub splice-none : (l : List ℕ) (k : ℕ) → splice l k [] ≡ l
+unfolding splice
+splice-none l k = rw (append-nil (take k l), add-zero k) (take-append-drop k l)
+
+-- ---- values
+
+pub length-values : (vs : List ℤ) → length (valueBytes vs) ≡ 4 * length vs
+unfolding valueBytes
+length-values [] = refl
+length-values (v ∷ vs) =
+    let e = length-append (leBytes 4 (residue v)) (valueBytes vs) in
+    let n = length-leBytes 4 (residue v) in
+    let r = length-values vs in
+    omega arith
+
+values-append : (us vs : List ℤ) → valueBytes (us ++ vs) ≡ valueBytes us ++ valueBytes vs
+unfolding valueBytes
+values-append [] vs = refl
+values-append (u ∷ us) vs =
+    ap (λ (l : List ℕ). leBytes 4 (residue u) ++ l) (values-append us vs) ∙ sym (append-assoc (leBytes 4 (residue u)) (valueBytes us) (valueBytes vs))
+
+values-one : (v : ℤ) → valueBytes (v ∷ []) ≡ leBytes 4 (residue v)
+unfolding valueBytes
+values-one v = append-nil (leBytes 4 (residue v))
+
+-- one value more is written
+pub values-turn : (l : List ℕ) (at : ℕ) (vs : List ℤ) (i : ℕ) {m : List ℕ} → at + 4 * length vs ≤ length l → i < length vs → m ≡ splice l at (valueBytes (take i vs))
+    → splice m (at + 4 * i) (leBytes 4 (residue (getD vs i (pos 0)))) ≡ splice l at (valueBytes (take (i + 1) vs))
+values-turn l at vs i h k e =
+    let z = getD vs i (pos 0) in
+    let n : length (valueBytes (take i vs)) ≡ 4 * i = length-values (take i vs) ∙ ap (λ (j : ℕ). 4 * j) (length-take-le i vs (omega arith)) in
+    let t : valueBytes (take i vs) ++ leBytes 4 (residue z) ≡ valueBytes (take (i + 1) vs) =
+    ap (λ (x : List ℕ). valueBytes (take i vs) ++ x) (sym (values-one z)) ∙ sym (values-append (take i vs) (z ∷ []))
+    ∙ ap valueBytes (sym (take-suc vs i (pos 0) k)) ∙ ap (λ (j : ℕ). valueBytes (take j vs)) (sym (add-one i)) in
+    ap (λ (x : List ℕ). splice x (at + 4 * i) (leBytes 4 (residue z))) e
+    ∙ splice-splice l at (valueBytes (take i vs)) (at + 4 * i) (leBytes 4 (residue z)) (omega arith) (omega arith) ∙ ap (splice l at) t
+
+-- ---- the whole image
+
+-- the marks alone
+pub marks-put : (l : List ℕ) (m : ℕ) → splice l 16 (leBytes 8 m) ≡ withMarks l m
+unfolding splice withMarks leBytes
+marks-put l m = refl
+
+-- five parts in a row
+pub written : (p : Plan) (c : Configuration) (m : ℕ) (l : List ℕ) {w₁ w₂ w₃ w₄ w₅ : List ℕ} → length l ≡ 312 → length (c .state .locations) ≡ 16
+    → length (c .state .lastPorts) ≡ 16 → length (c .state .values) ≡ 64 → w₁ ≡ splice l 0 (head p (c .oracle)) → w₂ ≡ splice w₁ 16 (leBytes 8 m)
+    → w₃ ≡ splice w₂ 24 (c .state .locations) → w₄ ≡ splice w₃ 40 (c .state .lastPorts) → w₅ ≡ splice w₄ 56 (valueBytes (c .state .values)) → w₅ ≡ image p c m
+unfolding image head leBytes
+written p c m l {w₁ = w₁} {w₂ = w₂} {w₃ = w₃} {w₄ = w₄} {w₅ = w₅} h hl hp hv e₁ e₂ e₃ e₄ e₅ =
+    let b = head p (c .oracle) ++ leBytes 8 m in
+    let d = b ++ c .state .locations in
+    let f = d ++ c .state .lastPorts in
+    let v = valueBytes (c .state .values) in
+    let nd : length d ≡ 40 = length-append b (c .state .locations) ∙ ap (λ (n : ℕ). 24 + n) hl in
+    let nf : length f ≡ 56 = length-append d (c .state .lastPorts) ∙ ap₂ _+_ nd hp in
+    let nv : length (f ++ v) ≡ 312 = length-append f v ∙ ap₂ _+_ nf (length-values (c .state .values) ∙ ap (λ (n : ℕ). 4 * n) hv) in
+    let r₂ = splice-next l (head p (c .oracle)) (leBytes 8 m) 16 w₁ w₂ refl (omega arith) e₁ e₂ in
+    let r₃ = splice-next l b (c .state .locations) 24 w₂ w₃ refl (omega arith) r₂ e₃ in
+    let r₄ = splice-next l d (c .state .lastPorts) 40 w₃ w₄ nd (omega arith) r₃ e₄ in
+    let r₅ = splice-next l f v 56 w₄ w₅ nf (omega arith) r₄ e₅ in
+    r₅ ∙ splice-all l (f ++ v) (nv ∙ sym h)

@@ -1,0 +1,60 @@
+use mathlib.Core.Path.{_≡_}
+use lib.ListN.{length}
+use borrow.Author.Needs.{needs}
+use Rattle.lane.specs.Runs.{configurationIn}
+use Rattle.lane.proofs.Writing.{written}
+use Rattle.lane.proofs.run.store.Statement.{statement}
+use Rattle.lane.proofs.run.store.Tie as tie
+
+locations-16 : (s : tie.Start) → length (s .args .t3 .locations) ≡ 16
+locations-16 s = search needs
+
+ports-16 : (s : tie.Start) → length (s .args .t3 .«last_ports») ≡ 16
+ports-16 s = search needs
+
+values-64 : (s : tie.Start) → length (s .args .t3 .values) ≡ 64
+values-64 s = search needs
+
+put-head-requires : tie.Need-put-head-requires
+put-head-requires c κs = search needs
+
+put-u64-requires : tie.Need-put-u64-requires
+put-u64-requires c κs = search needs
+
+put-bytes-requires : tie.Need-put-bytes-requires
+put-bytes-requires c κs = search needs
+
+put-bytes-requires-2 : tie.Need-put-bytes-requires-2
+put-bytes-requires-2 c κs = search needs
+
+put-values-requires : tie.Need-put-values-requires
+put-values-requires c κs = let q = c .before .before .before .before .before in
+    let l = q .before .before .before .before .before .before .before in
+    let m = l .before .before .before .before .before .before .before in
+    let s = m .before .before .before .before .before .before .before .before in
+    (search needs, values-64 s)
+
+same-length : tie.Need-same-length
+same-length c = search needs
+
+returns : tie.Need-returns
+returns c = let v = c .before .before in
+    let q = v .before .before .before .before .before .before in
+    let l = q .before .before .before .before .before .before .before in
+    let m = l .before .before .before .before .before .before .before in
+    let h = m .before .before .before .before in
+    let s = h .before .before .before .before in
+    written (s .args .plan .now) (configurationIn (s .args .t3)) (s .args .t3 .marks) (s .args .image .now) (s .pre .1) (locations-16 s) (ports-16 s) (values-64 s)
+    (h .put-head .ensures) (m .put-u64 .ensures) (l .put-bytes .ensures) (q .put-bytes2 .ensures) (v .put-values .ensures)
+
+pub store-spec : {M : Type 1} → statement M
+store-spec =
+    tie.close
+    (tie.spec
+    put-head-requires
+    put-u64-requires
+    put-bytes-requires
+    put-bytes-requires-2
+    put-values-requires
+    same-length
+    returns)
