@@ -1,5 +1,5 @@
 -- The list of tests that a rule asks for, as the code makes them: joined by `&`, or one before the others.
-use mathlib.Core.Path.{_≡_, refl, ap}
+use mathlib.Core.Path.{_≡_, refl, ap, _∙_}
 use mathlib.Core.Bool.{Bool, true, false, not, _&&_, _||_}
 use mathlib.Core.List.{List, [], _∷_, _++_}
 use Rattle.semantics.specs.Bytes.{allOf, implies}
@@ -33,6 +33,10 @@ first-fails a bs e = ap (λ (b : Bool). b && allOf bs) e
 pub first-passed : (a : Bool) (bs : List Bool) → a ≡ true → allOf (a ∷ bs) ≡ allOf bs
 unfolding allOf
 first-passed a bs e = ap (λ (b : Bool). b && allOf bs) e
+
+-- the last of two tests, where the first was passed
+pub second-says : (a b : Bool) → a ≡ true → allOf (a ∷ b ∷ []) ≡ b
+second-says a b e = first-passed a (b ∷ []) e ∙ tests b []
 
 -- an implication as the code tests it
 pub either : (a b : Bool) → implies a b ≡ (not a || b)

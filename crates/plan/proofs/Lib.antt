@@ -1,4 +1,3 @@
-pub mod Arms
 pub mod Conjunctions
 pub mod Counted
 pub mod Filled

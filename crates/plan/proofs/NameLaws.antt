@@ -5,7 +5,7 @@ use native.Mathlib.Omega.{arith}
 use native.Mathlib.Nat.{le-refl}
 use native.Mathlib.Numerals.{add-one}
 use mathlib.Core.Bool.{Bool, true, false, _&&_, _||_}
-use mathlib.Core.List.{List, [], _∷_}
+use mathlib.Core.List.{List}
 use lib.ListN.{length, getD, set, length-set, replicate}
 use lib.Seq.{getD-set-same, getD-set-other}
 use lib.Dec.{ltb, eqb}
@@ -15,7 +15,7 @@ use Rattle.semantics.specs.Plan.{Plan, Span, variables, components, owner, port
 use Rattle.semantics.specs.Code.{Role, ownedBy, sharedIn, spanOk}
 use Rattle.semantics.specs.Calls.{withBit}
 use Rattle.semantics.specs.Rules.{variableOk}
-use Rattle.semantics.proofs.Basics.{bool-cases, absurd-bool, same-test, and-both, both-and, each, all-of, ltb-true, ltb-false, lt-ltb, le-ltb, eqb-true, eqb-same, eqb-false, ne-eqb, every-at, some-has, some-found}
+use Rattle.semantics.proofs.Basics.{bool-cases, same-test, and-both, both-and, each, all-of, ltb-true, ltb-false, lt-ltb, le-ltb, eqb-true, eqb-same, eqb-false, ne-eqb, every-at, some-has, some-found}
 use Rattle.semantics.proofs.Masks.{bit-mask, bit-mask-over, bit-zero}
 use Rattle.words.proofs.BitLaws.{bit-or}
 use Rattle.plan.specs.Owned.{Owned, partMask}
@@ -144,21 +144,3 @@ pub zeros-at : (n c : ℕ) → _≡_ {A = ℕ} (getD {A = ℕ} (replicate {A = �
 zeros-at zero c = refl
 zeros-at (suc n) zero = refl
 zeros-at (suc n) (suc c) = zeros-at n c
-
--- ---- tests in a row
-
-pub first-fails : (a : Bool) (bs : List Bool) → a ≡ false → false ≡ allOf (a ∷ bs)
-unfolding allOf
-first-fails a bs e = sym (ap (λ (x : Bool). x && allOf bs) e)
-
-pub first-kept : (a : Bool) (bs : List Bool) → a ≡ true → allOf bs ≡ allOf (a ∷ bs)
-unfolding allOf
-first-kept a bs e = sym (ap (λ (x : Bool). x && allOf bs) e)
-
-pub last-says : (a : Bool) → a ≡ allOf (a ∷ [])
-unfolding allOf
-last-says true = refl
-last-says false = refl
-
-pub second-says : (a b : Bool) → a ≡ true → b ≡ allOf (a ∷ b ∷ [])
-second-says a b e = last-says b ∙ first-kept a (b ∷ []) e

@@ -4,7 +4,7 @@ use native.Mathlib.Omega.{arith}
 use borrow.Author.Needs.{needs}
 use Rattle.semantics.specs.Plan.{sectionSize}
 use Rattle.plan.proofs.OracleRows.{rows-le}
-use Rattle.plan.proofs.Arms.{past}
+use Rattle.code.proofs.MatchRest.{past}
 use Rattle.plan.proofs.header.section_size.Statement.{statement}
 use Rattle.plan.proofs.header.section_size.Tie as tie
 

@@ -1,7 +1,7 @@
 use mathlib.Core.Path.{sym, _∙_}
 use Rattle.semantics.specs.Rules.{codeOk}
 use Rattle.semantics.proofs.Basics.{not-yes, not-no}
-use Rattle.plan.proofs.NameLaws.{first-fails, first-kept, second-says}
+use Rattle.plan.proofs.Conjunctions.{first-fails, first-passed, second-says}
 use borrow.Author.Needs.{needs}
 use Rattle.plan.proofs.spans.code_ok.Statement.{statement}
 use Rattle.plan.proofs.spans.code_ok.Tie as tie
@@ -14,7 +14,7 @@ transitions-code-requires c κs = search needs
 
 returns : tie.Need-returns
 unfolding codeOk
-returns c = first-fails _ _ (sym (c .before .transitions-code .ensures) ∙ not-yes _ (c .if1 .taken))
+returns c = sym (first-fails _ _ (sym (c .before .transitions-code .ensures) ∙ not-yes _ (c .if1 .taken)))
 
 interactions-code-requires : tie.Need-interactions-code-requires
 interactions-code-requires c κs = search needs
@@ -22,8 +22,8 @@ interactions-code-requires c κs = search needs
 returns-2 : tie.Need-returns-2
 unfolding codeOk
 returns-2 c =
-    first-fails _ _ (sym (c .before .interactions-code .ensures) ∙ not-yes _ (c .if2 .taken))
-    ∙ first-kept _ _ (sym (c .before .before .before .before .transitions-code .ensures) ∙ not-no _ (c .before .before .before .if1 .left))
+    sym (first-fails _ _ (sym (c .before .interactions-code .ensures) ∙ not-yes _ (c .if2 .taken)))
+    ∙ sym (first-passed _ _ (sym (c .before .before .before .before .transitions-code .ensures) ∙ not-no _ (c .before .before .before .if1 .left)))
 
 propositions-code-requires : tie.Need-propositions-code-requires
 propositions-code-requires c κs = search needs
@@ -31,8 +31,8 @@ propositions-code-requires c κs = search needs
 returns-3 : tie.Need-returns-3
 unfolding codeOk
 returns-3 c =
-    c .propositions-code .ensures ∙ second-says _ _ (sym (c .before .before .interactions-code .ensures) ∙ not-no _ (c .before .if2 .left))
-    ∙ first-kept _ _ (sym (c .before .before .before .before .before .transitions-code .ensures) ∙ not-no _ (c .before .before .before .before .if1 .left))
+    c .propositions-code .ensures ∙ sym (second-says _ _ (sym (c .before .before .interactions-code .ensures) ∙ not-no _ (c .before .if2 .left)))
+    ∙ sym (first-passed _ _ (sym (c .before .before .before .before .before .transitions-code .ensures) ∙ not-no _ (c .before .before .before .before .if1 .left)))
 
 pub code-ok-spec : {M : Type 1} → statement M
 code-ok-spec =
