@@ -1,0 +1,5 @@
+pub mod ChoiceLaws
+pub mod FireLaws
+pub mod MaskLaws
+pub mod PlanLaws
+pub mod SearchLaws

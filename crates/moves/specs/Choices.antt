@@ -1,0 +1,46 @@
+-- The transition that each component uses through each of its ports, for all of them in one table; and what is enabled and eligible, read from tables and masks.
+use Prim.Native.Nat.{ℕ, _+_, _*_, _/_, _%_}
+use mathlib.Core.Bool.{Bool, not, cond, _&&_}
+use mathlib.Core.List.{List, [], _∷_}
+use lib.ListN.{getD, set}
+use lib.Dec.{ltb, eqb}
+use Rattle.semantics.specs.Bytes.{allOf, implies, some-below, lowest, table, bit, mask}
+use Rattle.semantics.specs.Plan.{Plan, transitions, interactions, componentOf, source, portOf, guardOf, portIn, takesPart, below}
+use Rattle.semantics.specs.Code.{State, guardHolds}
+use Rattle.semantics.specs.Move.{ready, chosen}
+
+-- Entry 16 * c + q is the transition that component c uses through port q; the number of transitions where there is none.
+unfoldable pub choiceTable : Plan → State → List ℕ
+choiceTable p s = table 256 (λ k. chosen p s (k / 16) (k % 16))
+
+-- Where a transition's choice stands in the table.
+abbrev pub slotOf : Plan → ℕ → ℕ
+slotOf p t = 16 * componentOf p t + portOf p t
+
+-- Transition t leaves its component's location, and its guard holds.
+unfoldable pub ripe : Plan → State → ℕ → Bool
+ripe p s t = eqb (source p t) (getD (s .locations) (componentOf p t) 0) && guardHolds p s (guardOf p t)
+
+-- The table when transition t was considered: it takes its slot where that is still open and the transition is ripe.
+unfoldable pub noted : Plan → State → ℕ → List ℕ → List ℕ
+noted p s t out = cond (eqb (getD out (slotOf p t) 0) (transitions p) && ripe p s t) (set out (slotOf p t) t) out
+
+-- The lowest number below n at which f holds; the number none where there is none.
+unfoldable pub lowestOr : ℕ → ℕ → (ℕ → Bool) → ℕ
+lowestOr none n f = let k = lowest n f in cond (ltb k n) k none
+
+-- The table when the transitions below n were considered.
+unfoldable pub choicesBelow : Plan → State → ℕ → List ℕ
+choicesBelow p s n = table 256 (λ k. lowestOr (transitions p) n (ready p s (k / 16) (k % 16)))
+
+-- Component c takes no part in interaction i, or the table has a transition for its port.
+unfoldable pub portReady : Plan → List ℕ → ℕ → ℕ → Bool
+portReady p picks i c = implies (takesPart p i c) (ltb (getD picks (16 * c + portIn p i c) 0) (transitions p))
+
+-- Interaction i is in the mask, and none of the mask lies above it.
+unfoldable pub stands : Plan → ℕ → ℕ → Bool
+stands p m i = allOf (bit m i ∷ not (some-below (interactions p) (λ j. below p i j && bit m j)) ∷ [])
+
+-- The interactions of the mask above which none of the mask lies.
+unfoldable pub standing : Plan → ℕ → ℕ
+standing p m = mask (interactions p) (stands p m)

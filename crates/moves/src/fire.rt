@@ -1,0 +1,132 @@
+// One move: the transfer, the actions of the components that take part, then their destinations and last ports.
+use crate::choice;
+use crate::masks;
+use code::eval;
+use lane::run::Run;
+use words::bytes;
+ghost use mathlib.Core.Path.{_≡_};
+ghost use mathlib.Core.Bool.{true};
+ghost use Prim.Native.Nat.{_+_, _*_, _<_};
+ghost use lib.ListN.{length, getD};
+ghost use Rattle.semantics.specs.Plan.{components, interactions, destination, portIn, takesPart};
+ghost use Rattle.semantics.specs.Rules.{planRefusal};
+ghost use Rattle.semantics.specs.Move.{enabled, fired};
+ghost use Rattle.moves.specs.Choices.{choiceTable};
+ghost use Rattle.moves.specs.Parts.{picked, Picked, actPart, actsBelow, setWhere, setBelow};
+ghost use Rattle.lane.specs.Runs.{site, stateOf, runOf};
+
+fn wide(n: u16) -> usize
+    ensures { λ r. ⌜ (r ≡ n) × (r < 65536) ⌝ }
+{
+    n as usize
+}
+
+// The transition that the table has for component c through a port.
+fn pick(picks: &[u16; 256], c: usize, port: usize) -> usize
+    requires { ⌜ (c < 16) × (port < 16) ⌝ }
+    ensures { λ r. ⌜ r ≡ getD (now (picks .entry)) (16 * c + port) 0 ⌝ }
+{
+    wide(picks[16 * c + port])
+}
+
+// The action of component c, where it takes part in interaction i.
+fn act_part(
+    plan: &[u8],
+    locations: &[u8; 16],
+    ports: &[u8; 16],
+    values: &mut [i32; 64],
+    picks: &[u16; 256],
+    i: usize,
+    c: usize,
+)
+    requires { ⌜ planRefusal (now plan) ≡ 0 ⌝ }
+    requires { ⌜ (i < interactions (now plan)) × (c < 16) × (length (now values) ≡ 64) × Picked (now plan) (now picks) i ⌝ }
+    ensures { λ _. ⌜ (site (now (locations .entry)) (now (ports .entry)) (now (values .exit)) ≡ actPart (now (plan .entry)) (now (picks .entry)) i c (site (now (locations .entry)) (now (ports .entry)) (now (values .entry)))) × (length (now (values .exit)) ≡ 64) ⌝ }
+{
+    let q = masks::port_in(plan, i, c);
+    if q != 255 {
+        let at = choice::transition_at(plan, pick(picks, c, q));
+        eval::act(plan, values, at + 8);
+    }
+}
+
+// The actions of all components that take part in interaction i.
+fn acts(
+    plan: &[u8],
+    locations: &[u8; 16],
+    ports: &[u8; 16],
+    values: &mut [i32; 64],
+    picks: &[u16; 256],
+    i: usize,
+)
+    requires { ⌜ planRefusal (now plan) ≡ 0 ⌝ }
+    requires { ⌜ (i < interactions (now plan)) × (length (now values) ≡ 64) × Picked (now plan) (now picks) i ⌝ }
+    ensures { λ _. ⌜ (site (now (locations .entry)) (now (ports .entry)) (now (values .exit)) ≡ actsBelow (now (plan .entry)) (now (picks .entry)) i (components (now (plan .entry))) (site (now (locations .entry)) (now (ports .entry)) (now (values .entry)))) × (length (now (values .exit)) ≡ 64) ⌝ }
+{
+    let count = bytes::field(plan, 10);
+    let mut c = 0;
+    while c < count {
+        act_part(plan, locations, ports, values, picks, i, c);
+        c += 1;
+    }
+}
+
+// Brings component c to its destination and notes its port, where it takes part in interaction i.
+fn arrive_part(
+    plan: &[u8],
+    locations: &mut [u8; 16],
+    ports: &mut [u8; 16],
+    picks: &[u16; 256],
+    i: usize,
+    c: usize,
+)
+    requires { ⌜ planRefusal (now plan) ≡ 0 ⌝ }
+    requires { ⌜ (i < interactions (now plan)) × (c < 16) × Picked (now plan) (now picks) i ⌝ }
+    ensures { λ _. ⌜ now (locations .exit) ≡ setWhere (takesPart (now (plan .entry)) i c) (now (locations .entry)) c (destination (now (plan .entry)) (picked (now (plan .entry)) (now (picks .entry)) i c)) ⌝ }
+    ensures { λ _. ⌜ now (ports .exit) ≡ setWhere (takesPart (now (plan .entry)) i c) (now (ports .entry)) c (portIn (now (plan .entry)) i c) ⌝ }
+{
+    let row = masks::interaction_at(plan, i);
+    let port = plan[row + c];
+    if port != 255 {
+        let at = choice::transition_at(plan, pick(picks, c, bytes::wide(port)));
+        locations[c] = plan[at + 3];
+        ports[c] = port;
+    }
+}
+
+// Brings all components that take part in interaction i to their destinations and notes their ports.
+fn arrive(plan: &[u8], locations: &mut [u8; 16], ports: &mut [u8; 16], picks: &[u16; 256], i: usize)
+    requires { ⌜ planRefusal (now plan) ≡ 0 ⌝ }
+    requires { ⌜ (i < interactions (now plan)) × Picked (now plan) (now picks) i ⌝ }
+    ensures { λ _. ⌜ now (locations .exit) ≡ setBelow (takesPart (now (plan .entry)) i) (λ c. destination (now (plan .entry)) (picked (now (plan .entry)) (now (picks .entry)) i c)) (now (locations .entry)) (components (now (plan .entry))) ⌝ }
+    ensures { λ _. ⌜ now (ports .exit) ≡ setBelow (takesPart (now (plan .entry)) i) (portIn (now (plan .entry)) i) (now (ports .entry)) (components (now (plan .entry))) ⌝ }
+{
+    let count = bytes::field(plan, 10);
+    let mut c = 0;
+    while c < count {
+        arrive_part(plan, locations, ports, picks, i, c);
+        c += 1;
+    }
+}
+
+// The lane after interaction i; the table of choices is that of the state before it.
+pub fn fire(plan: &[u8], run: Run, picks: &[u16; 256], i: usize) -> Run
+    requires { ⌜ planRefusal (now plan) ≡ 0 ⌝ }
+    requires { ⌜ (i < interactions (now plan)) × (now picks ≡ choiceTable (now plan) (stateOf run)) × (enabled (now plan) (stateOf run) i ≡ true) ⌝ }
+    ensures { λ r. ⌜ r ≡ runOf (record { state = fired (now (plan .entry)) (stateOf run) i; oracle = run .oracle }) (run .marks) ⌝ }
+{
+    let mut locations = run.locations;
+    let mut ports = run.last_ports;
+    let mut values = run.values;
+    let at = masks::interaction_at(plan, i);
+    eval::act(plan, &mut values, at + 20);
+    acts(plan, &locations, &ports, &mut values, picks, i);
+    arrive(plan, &mut locations, &mut ports, picks, i);
+    Run {
+        locations: locations,
+        last_ports: ports,
+        values: values,
+        oracle: run.oracle,
+        marks: run.marks,
+    }
+}
