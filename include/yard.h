@@ -5,8 +5,8 @@
  * A call reads inside the lengths given to it, ends, keeps nothing, and needs no test before it:
  * a refusal is an answer like any other and changes no byte.
  *
- * The caller owes that each pointer is not null and valid for its length, and that nobody else writes
- * the bytes during the call.
+ * The caller owes that each pointer is not null and valid for its length, that the image does not overlap
+ * the plan, and that nobody else writes either during the call.
  */
 #ifndef YARD_H
 #define YARD_H
@@ -18,9 +18,15 @@
 extern "C" {
 #endif
 
+enum { YARD_IMAGE_BYTES = 312 }; /* the image of a lane */
+
 enum yard_kind {
-    YARD_ACCEPTED = 0, /* number 0 */
-    YARD_REFUSED = 5   /* number: one of enum yard_refusal */
+    YARD_ACCEPTED = 0,  /* number 0 */
+    YARD_COMMITTED = 1, /* number: the interaction; the image holds the lane after it, with no marks */
+    YARD_CANCELLED = 2, /* number: the interaction; its mark is set and no other byte differs */
+    YARD_STALLED = 3,   /* number 0: no move is enabled; no byte changes */
+    YARD_PENNED = 4,    /* number 0: moves are enabled and none ends good; every eligible one is marked */
+    YARD_REFUSED = 5    /* number: one of enum yard_refusal; no byte changes */
 };
 
 /* Why a call was refused. The lowest number that applies is the answer. */
@@ -34,7 +40,16 @@ enum yard_refusal {
     YARD_BAD_INTERACTION = 7, /* plan: an interaction record */
     YARD_BAD_RANK = 8,        /* plan: the ranks are not a strict order on the interactions */
     YARD_BAD_ORACLE = 9,      /* plan: a verdict, a next state, or a follower of a final verdict */
-    YARD_BAD_CODE = 10        /* plan: a span or a code word */
+    YARD_BAD_CODE = 10,       /* plan: a span or a code word */
+    YARD_BAD_LENGTH = 11,     /* image: not 312 bytes */
+    YARD_OTHER_PLAN = 12,     /* image: bytes 0-7 or 9-15 do not match form 1 and the plan */
+    YARD_BAD_STATE = 13,      /* image: oracle state, location or last port out of range or bad, or an unused entry filled */
+    YARD_FALSE_MARK = 14,     /* image: a mark on a move that is not eligible or would end good */
+    YARD_BAD_START = 15,      /* start: the starting state is bad */
+    YARD_NO_SUCH_MOVE = 16,   /* try: the number is not an interaction of the plan */
+    YARD_NOT_ENABLED = 17,    /* try: the move is not enabled */
+    YARD_OUTRANKED = 18,      /* try: an enabled move lies above it */
+    YARD_MARKED = 19          /* try: it was tried in this state and ends bad */
 };
 
 #define YARD_KIND(answer) ((uint32_t)(answer) >> 16)
@@ -42,6 +57,21 @@ enum yard_refusal {
 
 /* Whether a plan is lawful: accepted, or refused with 1 to 10. */
 uint32_t yard_check(const uint8_t *plan, size_t plan_len);
+
+/* Writes the image of a new lane: accepted, or refused with 1 to 11 or 15. What the image held does not matter. */
+uint32_t yard_start(const uint8_t *plan, size_t plan_len, uint8_t *image, size_t image_len);
+
+/* Whether plan and image are lawful, so that yard_offered_bits has an answer: accepted, or refused with 1 to 14. */
+uint32_t yard_offered(const uint8_t *plan, size_t plan_len, const uint8_t *image, size_t image_len);
+
+/* The moves on offer (enabled, not outranked, not marked): bit i for interaction i. 0 where the call is refused. */
+uint64_t yard_offered_bits(const uint8_t *plan, size_t plan_len, const uint8_t *image, size_t image_len);
+
+/* Tries one move: committed, cancelled, or refused with 1 to 14 or 16 to 19. */
+uint32_t yard_try(const uint8_t *plan, size_t plan_len, uint8_t *image, size_t image_len, uint32_t interaction);
+
+/* Settles on the lowest-numbered eligible move that ends good: committed, stalled, penned, or refused with 1 to 14. */
+uint32_t yard_settle(const uint8_t *plan, size_t plan_len, uint8_t *image, size_t image_len);
 
 #ifdef __cplusplus
 }

@@ -1,6 +1,9 @@
 // The calls that C programs make: include/yard.h. An answer is one number, kind * 65536 + number.
+use engine::answer;
+use engine::calls;
 ghost use mathlib.Core.Path.{_≡_};
-ghost use Rattle.semantics.specs.Calls.{packed, check};
+ghost use Rattle.semantics.specs.Calls.{packed, check, start, called, offeredBits};
+ghost use Rattle.semantics.specs.Calls.Call.{offered, try, settle};
 
 // Whether a plan is lawful: accepted, or refused with 1 to 10.
 #[no_mangle]
@@ -12,4 +15,47 @@ pub extern "C" fn yard_check(plan: &[u8]) -> u32
         return 0;
     }
     5 * 65536 + refusal as u32
+}
+
+// Starts a lane: accepted, or refused with 1 to 11 or 15.
+#[no_mangle]
+pub extern "C" fn yard_start(plan: &[u8], image: &mut [u8]) -> u32
+    ensures { λ r. ⌜ (r ≡ packed (start (now (plan .entry)) (now (image .entry)) .answer)) × (now (image .exit) ≡ start (now (plan .entry)) (now (image .entry)) .image) ⌝ }
+{
+    answer::packed(calls::start(plan, image))
+}
+
+// Whether a lane's image is lawful and its moves can be listed: accepted, or refused with 1 to 14.
+#[no_mangle]
+pub extern "C" fn yard_offered(plan: &[u8], image: &[u8]) -> u32
+    ensures { λ r. ⌜ r ≡ packed (called (now (plan .entry)) (now (image .entry)) offered .answer) ⌝ }
+{
+    let offer = calls::offered(plan, image);
+    let said = offer.answer;
+    answer::packed(said)
+}
+
+// The moves on offer, bit i for interaction i; 0 where the call is refused.
+#[no_mangle]
+pub extern "C" fn yard_offered_bits(plan: &[u8], image: &[u8]) -> u64
+    ensures { λ r. ⌜ r ≡ offeredBits (now (plan .entry)) (now (image .entry)) ⌝ }
+{
+    let offer = calls::offered(plan, image);
+    offer.bits
+}
+
+// Tries one move: committed, cancelled, or refused with 1 to 14 or 16 to 19.
+#[no_mangle]
+pub extern "C" fn yard_try(plan: &[u8], image: &mut [u8], interaction: u32) -> u32
+    ensures { λ r. ⌜ (r ≡ packed (called (now (plan .entry)) (now (image .entry)) (try interaction) .answer)) × (now (image .exit) ≡ called (now (plan .entry)) (now (image .entry)) (try interaction) .image) ⌝ }
+{
+    answer::packed(calls::try_move(plan, image, interaction))
+}
+
+// Settles on the lowest safe move: committed, stalled, penned, or refused with 1 to 14.
+#[no_mangle]
+pub extern "C" fn yard_settle(plan: &[u8], image: &mut [u8]) -> u32
+    ensures { λ r. ⌜ (r ≡ packed (called (now (plan .entry)) (now (image .entry)) settle .answer)) × (now (image .exit) ≡ called (now (plan .entry)) (now (image .entry)) settle .image) ⌝ }
+{
+    answer::packed(calls::settle(plan, image))
 }

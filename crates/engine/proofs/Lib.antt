@@ -1,0 +1,5 @@
+pub mod CallLaws
+pub mod ExaminedLaws
+pub mod MarkLaws
+pub mod Refusals
+pub mod RunLaws

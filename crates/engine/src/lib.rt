@@ -1,0 +1,3 @@
+// The calls on slices, each total: the answer and every byte of the image are what the definitions give.
+pub mod answer;
+pub mod calls;
