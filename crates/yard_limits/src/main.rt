@@ -1,7 +1,10 @@
-// Runs the plan check at its limits: for each case a line with the case, and whether the plan was
-// accepted or the number of its refusal.
+// Runs the plan check, and then the calls on an image, at their limits: for each case a line with the
+// case and the answer.
+mod answers;
 mod build;
+mod calls;
 
+use answers::say;
 use build::Buffer;
 use build::lay;
 use build::poke;
@@ -17,20 +20,6 @@ const GUARD: usize = 66;
 const ACTION: usize = 70;
 
 const CODE: usize = 106;
-
-// Ends the line of a case with what the check answered.
-fn say(answer: u32) {
-    if answer == 0 {
-        io::write_all(1, b"accepted");
-    } else if answer / 65536 == 5 {
-        io::write_all(1, b"refused ");
-        io::print_decimal(1, (answer % 65536) as u64);
-    } else {
-        io::write_all(1, b"unknown answer ");
-        io::print_decimal(1, answer as u64);
-    }
-    io::write_all(1, b"\n");
-}
 
 // The line of a case whose plan is the first len bytes of buf.
 fn ask(label: &[u8], buf: &[u8], len: usize) {
@@ -273,4 +262,5 @@ fn main() {
     ranks(&mut buf);
     places(&mut buf);
     words(&mut buf);
+    calls::run(&mut buf);
 }

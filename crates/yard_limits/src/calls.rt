@@ -1,0 +1,358 @@
+// Runs the calls on an image: for each case a line with the case and what the call answered.
+use crate::answers::say;
+use crate::build::Buffer;
+use crate::build::lay;
+use crate::build::poke;
+use crate::build::put;
+use crate::build::put_words;
+
+// Memory for an image of 312 bytes, and for one that is a byte too long.
+pub type Image = [u8; 313];
+
+// Kind 6, which is no answer: a part was longer than the memory it is of.
+const LONGER: u32 = 6 * 65536;
+
+// A call of the engine.
+enum Call {
+    Check,
+    Start,
+    Offered,
+    Try(u32),
+    Settle,
+}
+
+// What a call answers.
+fn answer(call: Call, plan: &[u8], image: &mut [u8]) -> u32 {
+    match call {
+        Call::Check => yard::yard_check(plan),
+        Call::Start => yard::yard_start(plan, image),
+        Call::Offered => yard::yard_offered(plan, image),
+        Call::Try(interaction) => yard::yard_try(plan, image, interaction),
+        Call::Settle => yard::yard_settle(plan, image),
+    }
+}
+
+// What a call answers on the first size bytes of the image.
+fn partly(call: Call, plan: &[u8], image: &mut [u8], size: usize) -> u32 {
+    if size > image.len() {
+        return LONGER;
+    }
+    answer(call, plan, &mut image[..size])
+}
+
+// The same with the plan in the first len bytes of buf.
+fn called(call: Call, buf: &[u8], len: usize, image: &mut Image, size: usize) -> u32 {
+    if len > buf.len() {
+        return LONGER;
+    }
+    partly(call, &buf[..len], image, size)
+}
+
+// The offered bits of the first size bytes of the image.
+fn partly_bits(plan: &[u8], image: &[u8], size: usize) -> u64 {
+    if size > image.len() {
+        return LONGER as u64;
+    }
+    yard::yard_offered_bits(plan, &image[..size])
+}
+
+// The same with the plan in the first len bytes of buf.
+fn called_bits(buf: &[u8], len: usize, image: &Image, size: usize) -> u64 {
+    if len > buf.len() {
+        return LONGER as u64;
+    }
+    partly_bits(&buf[..len], image, size)
+}
+
+// The line of a call with the plan in the first len bytes of buf and the first size bytes of the
+// image.
+fn sized(label: &[u8], call: Call, buf: &Buffer, len: usize, image: &mut Image, size: usize) {
+    io::write_all(1, label);
+    io::write_all(1, b": ");
+    say(called(call, buf, len, image, size));
+}
+
+// The line of the offered bits, of the same.
+fn sized_bits(label: &[u8], buf: &Buffer, len: usize, image: &Image, size: usize) {
+    io::write_all(1, label);
+    io::write_all(1, b": ");
+    io::print_decimal(1, called_bits(buf, len, image, size));
+    io::write_all(1, b"\n");
+}
+
+// The line of a call on the image as it is.
+fn line(label: &[u8], call: Call, buf: &Buffer, len: usize, image: &mut Image) {
+    sized(label, call, buf, len, image, 312);
+}
+
+// The line of the offered bits of the image as it is.
+fn bits(label: &[u8], buf: &Buffer, len: usize, image: &Image) {
+    sized_bits(label, buf, len, image, 312);
+}
+
+// Starts the image, with no line.
+fn start(buf: &Buffer, len: usize, image: &mut Image) {
+    called(Call::Start, buf, len, image, 312);
+}
+
+// The line of a call on an image that has just been started.
+fn afresh(label: &[u8], call: Call, buf: &Buffer, len: usize, image: &mut Image) {
+    start(buf, len, image);
+    line(label, call, buf, len, image);
+}
+
+// The line of a settling on a started image of which one byte was changed.
+fn spoilt(label: &[u8], buf: &Buffer, len: usize, image: &mut Image, at: usize, v: u8) {
+    start(buf, len, image);
+    if at < image.len() {
+        image[at] = v;
+    }
+    line(label, Call::Settle, buf, len, image);
+}
+
+// The sample lane, but its transitions are t as lay makes them. Gives its length.
+fn lane(buf: &mut Buffer, t: u16) -> usize {
+    let len = lay(buf, 1, 1, t, 3, 1, 2, 10);
+    put(buf, 48, b"\x03\0\x03");
+    let at = 60 + 12 * t as usize;
+    poke(buf, at, 1);
+    poke(buf, at + 48, 2);
+    put(buf, at + 96, b"\x05\0\x05\0\x02\0\x01\0\x01\x01");
+    put_words(
+        buf,
+        at + 106,
+        &[
+            0x0002,
+            0x1328,
+            0x3000,
+            0x0000,
+            0x3000,
+            0x4002,
+            0x2000,
+            0x0000,
+            0x6002,
+            0x6004,
+        ],
+    );
+    len
+}
+
+// The sample lane, of 234 bytes.
+fn sample(buf: &mut Buffer) -> usize {
+    let len = lane(buf, 4);
+    put(buf, 60, b"\0\0\x01\x02");
+    put(buf, 72, b"\0\0\0\x01\0\0\0\0\0\0\x03\0");
+    put(buf, 84, b"\0\x01\x01\x02");
+    put(buf, 96, b"\0\x02\x02\0\0\0\0\0\x03\0\x02\0");
+    len
+}
+
+// The sample lane with interaction 1 below 0.
+fn ranked(buf: &mut Buffer) -> usize {
+    let len = sample(buf);
+    poke(buf, 188, 1);
+    len
+}
+
+// A plan of 64 interactions, each of which ends bad.
+fn many(buf: &mut Buffer) -> usize {
+    let len = lay(buf, 1, 0, 1, 64, 1, 2, 1);
+    put(buf, 2116, b"\x02\0\x01\0\x01\x01\x01\x40");
+    len
+}
+
+// Start and offered, and starts in memory of another length: refusal 11.
+fn starts(buf: &mut Buffer, image: &mut Image) {
+    let len = sample(buf);
+    line(b"start", Call::Start, buf, len, image);
+    line(b"offered at start", Call::Offered, buf, len, image);
+    bits(b"offered bits at start", buf, len, image);
+    sized(
+        b"start, image of 311 bytes",
+        Call::Start,
+        buf,
+        len,
+        image,
+        311,
+    );
+    sized(
+        b"start, image of 313 bytes",
+        Call::Start,
+        buf,
+        len,
+        image,
+        313,
+    );
+}
+
+// The other calls on images of another length: refusal 11.
+fn lengths(buf: &mut Buffer, image: &mut Image) {
+    let len = sample(buf);
+    sized(
+        b"offered, image of 313 bytes",
+        Call::Offered,
+        buf,
+        len,
+        image,
+        313,
+    );
+    sized_bits(b"offered bits, image of 313 bytes", buf, len, image, 313);
+    sized(
+        b"try 1, image of 311 bytes",
+        Call::Try(1),
+        buf,
+        len,
+        image,
+        311,
+    );
+    sized(
+        b"settle, image of 313 bytes",
+        Call::Settle,
+        buf,
+        len,
+        image,
+        313,
+    );
+}
+
+// Images that do not match form 1 and the plan: refusal 12.
+fn forms(buf: &mut Buffer, image: &mut Image) {
+    let len = sample(buf);
+    spoilt(b"wrong letters in the image", buf, len, image, 0, b'B');
+    spoilt(b"form 2", buf, len, image, 4, 2);
+    spoilt(b"image of another count", buf, len, image, 5, 2);
+    spoilt(b"byte 9 of the image not zero", buf, len, image, 9, 1);
+    spoilt(b"image of another plan number", buf, len, image, 12, 8);
+}
+
+// States that the plan does not have: refusal 13.
+fn states(buf: &mut Buffer, image: &mut Image) {
+    let len = sample(buf);
+    spoilt(b"oracle state not below S", buf, len, image, 8, 2);
+    spoilt(b"oracle state bad", buf, len, image, 8, 1);
+    spoilt(b"location out of range", buf, len, image, 24, 3);
+    spoilt(b"last port out of range", buf, len, image, 40, 3);
+    spoilt(b"unused location filled", buf, len, image, 25, 1);
+    spoilt(b"unused last port filled", buf, len, image, 41, 0);
+    spoilt(b"unused value filled", buf, len, image, 60, 1);
+}
+
+// False marks: refusal 14.
+fn marks(buf: &mut Buffer, image: &mut Image) {
+    let len = sample(buf);
+    spoilt(b"mark at I", buf, len, image, 16, 8);
+    spoilt(
+        b"mark on a move that is not enabled",
+        buf,
+        len,
+        image,
+        16,
+        4,
+    );
+    spoilt(b"mark on a move that ends good", buf, len, image, 16, 2);
+    let len = ranked(buf);
+    spoilt(b"mark on a move that is outranked", buf, len, image, 16, 2);
+}
+
+// Starting states that are bad: refusal 15.
+fn bad_starts(buf: &mut Buffer, image: &mut Image) {
+    let len = sample(buf);
+    poke(buf, 49, 2);
+    line(b"starting location bad", Call::Start, buf, len, image);
+    let len = sample(buf);
+    poke(buf, 22, 1);
+    line(b"first oracle state bad", Call::Start, buf, len, image);
+}
+
+// Numbers that are no interaction, and moves that are not enabled: refusals 16 and 17.
+fn tries(buf: &mut Buffer, image: &mut Image) {
+    let len = sample(buf);
+    afresh(b"try 3", Call::Try(3), buf, len, image);
+    afresh(b"try 4294967295", Call::Try(4294967295), buf, len, image);
+    afresh(b"try 2 at start", Call::Try(2), buf, len, image);
+    afresh(b"settle at start", Call::Settle, buf, len, image);
+    line(b"try 1 after move 1", Call::Try(1), buf, len, image);
+}
+
+// Each call on the image that a cancelled move left: refusal 19.
+fn cancelled(buf: &mut Buffer, image: &mut Image) {
+    let len = sample(buf);
+    afresh(b"try 0 at start", Call::Try(0), buf, len, image);
+    line(b"then check", Call::Check, buf, len, image);
+    line(b"then offered", Call::Offered, buf, len, image);
+    bits(b"then offered bits", buf, len, image);
+    line(b"then try 0", Call::Try(0), buf, len, image);
+    line(b"then settle", Call::Settle, buf, len, image);
+    line(b"then start", Call::Start, buf, len, image);
+}
+
+// As many interactions as there are marks, all of them bad.
+fn all_marks(buf: &mut Buffer, image: &mut Image) {
+    let len = many(buf);
+    line(b"64 interactions, start", Call::Start, buf, len, image);
+    bits(b"64 interactions, offered bits", buf, len, image);
+    line(b"64 interactions, try 63", Call::Try(63), buf, len, image);
+    line(b"64 interactions, settle", Call::Settle, buf, len, image);
+    bits(b"64 interactions, offered bits then", buf, len, image);
+    line(
+        b"64 interactions, try 0 then",
+        Call::Try(0),
+        buf,
+        len,
+        image,
+    );
+    line(
+        b"64 interactions, settle again",
+        Call::Settle,
+        buf,
+        len,
+        image,
+    );
+}
+
+// A safe move below a bad one, refusal 18, and the image then under the plan without the rank.
+fn ranks(buf: &mut Buffer, image: &mut Image) {
+    let len = ranked(buf);
+    afresh(b"ranked, try 1", Call::Try(1), buf, len, image);
+    line(b"ranked, settle", Call::Settle, buf, len, image);
+    line(b"ranked, try 0 then", Call::Try(0), buf, len, image);
+    line(b"ranked, try 1 then", Call::Try(1), buf, len, image);
+    let len = sample(buf);
+    line(
+        b"the same image without the rank, settle",
+        Call::Settle,
+        buf,
+        len,
+        image,
+    );
+}
+
+// A plan in which nothing moves, and the image then under the sample lane.
+fn stalls(buf: &mut Buffer, image: &mut Image) {
+    let len = lane(buf, 0);
+    afresh(b"no transitions, settle", Call::Settle, buf, len, image);
+    let len = sample(buf);
+    line(
+        b"the same image with the transitions, settle",
+        Call::Settle,
+        buf,
+        len,
+        image,
+    );
+}
+
+// Every case on an image, in the order of the stored output.
+pub fn run(buf: &mut Buffer) {
+    let mut image = [0u8; 313];
+    starts(buf, &mut image);
+    lengths(buf, &mut image);
+    forms(buf, &mut image);
+    states(buf, &mut image);
+    marks(buf, &mut image);
+    bad_starts(buf, &mut image);
+    tries(buf, &mut image);
+    cancelled(buf, &mut image);
+    all_marks(buf, &mut image);
+    ranks(buf, &mut image);
+    stalls(buf, &mut image);
+}
