@@ -52,7 +52,7 @@ fn marks_ok(plan: &[u8], run: Run, picks: &[u16; 256], eligible: u64) -> bool
     while left != 0 {
         let i = bits::lowest_bit(left);
         let next = judge::advance(plan, run, picks, i);
-        if judge::is_good(plan, next.oracle) {
+        if image::good(plan, next.oracle) {
             return false;
         }
         left = bits::without_lowest(left);
@@ -125,7 +125,7 @@ pub fn start(plan: &[u8], image: &mut [u8]) -> Answer
         return Answer::Refused(11);
     }
     let run = judge::judge(plan, run::starting(plan));
-    if !judge::is_good(plan, run.oracle) {
+    if !image::good(plan, run.oracle) {
         return Answer::Refused(15);
     }
     run::store(plan, image, run);
@@ -176,7 +176,7 @@ pub fn try_move(plan: &[u8], image: &mut [u8], i: u32) -> Answer
     }
     let picks = lane.picks;
     let mut next = judge::advance(plan, run, &picks, n);
-    if judge::is_good(plan, next.oracle) {
+    if image::good(plan, next.oracle) {
         next.marks = 0;
         run::store(plan, image, next);
         return Answer::Committed(n as u8);

@@ -1,29 +1,20 @@
 // The event of a state, what the oracle makes of it, and the search for a move that ends good.
 use crate::fire;
 use code::eval;
+use lane::image;
 use lane::run::Run;
 use words::bits;
 use words::bytes;
 ghost use mathlib.Core.Path.{_≡_};
-ghost use mathlib.Core.Bool.{true, not};
+ghost use mathlib.Core.Bool.{true};
 ghost use mathlib.Core.List.{[], _∷_};
-ghost use Prim.Native.Nat.{ℕ, _+_, _≤_, _<_};
-ghost use lib.ListN.{length};
-ghost use lib.Dec.{eqb};
+ghost use Prim.Native.Nat.{ℕ, _+_, _<_};
 ghost use Rattle.semantics.specs.Bytes.{allOf, lowest, bit};
-ghost use Rattle.semantics.specs.Plan.{interactions, oracleStates, letters, oracleAt, verdict, next};
+ghost use Rattle.semantics.specs.Plan.{interactions, oracleStates, letters, next};
 ghost use Rattle.semantics.specs.Rules.{planRefusal};
 ghost use Rattle.semantics.specs.Move.{enabled, letter, judged, after, good};
 ghost use Rattle.moves.specs.Choices.{choiceTable};
 ghost use Rattle.lane.specs.Runs.{site, stateOf, configurationIn, runOf};
-
-// How many letters there are.
-fn letters(plan: &[u8]) -> usize
-    requires { ⌜ planRefusal (now plan) ≡ 0 ⌝ }
-    ensures { λ r. ⌜ (r ≡ letters (now (plan .entry))) × (r ≤ 16) ⌝ }
-{
-    1usize << bytes::field(plan, 18)
-}
 
 // The event's letter: the sum of 2^k over the true propositions k.
 pub fn letter(plan: &[u8], locations: &[u8; 16], ports: &[u8; 16], values: &[i32; 64]) -> usize
@@ -43,22 +34,13 @@ pub fn letter(plan: &[u8], locations: &[u8; 16], ports: &[u8; 16], values: &[i32
     out as usize
 }
 
-// Where oracle state q stands in the plan.
-fn oracle_at(plan: &[u8], q: u8) -> usize
-    requires { ⌜ planRefusal (now plan) ≡ 0 ⌝ }
-    requires { ⌜ q < oracleStates (now plan) ⌝ }
-    ensures { λ r. ⌜ (r ≡ oracleAt (now (plan .entry)) q) × (r + (1 + letters (now (plan .entry))) ≤ length (now (plan .entry))) ⌝ }
-{
-    bytes::field(plan, 38) + (1 + letters(plan)) * bytes::wide(q)
-}
-
 // The oracle state that follows q on a letter.
 fn next_of(plan: &[u8], q: u8, a: usize) -> u8
     requires { ⌜ planRefusal (now plan) ≡ 0 ⌝ }
     requires { ⌜ (q < oracleStates (now plan)) × (a < letters (now plan)) ⌝ }
     ensures { λ r. ⌜ (r ≡ next (now (plan .entry)) q a) × (r < oracleStates (now (plan .entry))) ⌝ }
 {
-    let at = oracle_at(plan, q);
+    let at = image::oracle_at(plan, q);
     plan[at + (1 + a)]
 }
 
@@ -73,16 +55,6 @@ pub fn judge(plan: &[u8], mut run: Run) -> Run
     let a = letter(plan, &locations, &ports, &run.values);
     run.oracle = next_of(plan, run.oracle, a);
     run
-}
-
-// Whether the verdict of an oracle state is not 0.
-pub fn is_good(plan: &[u8], oracle: u8) -> bool
-    requires { ⌜ planRefusal (now plan) ≡ 0 ⌝ }
-    requires { ⌜ oracle < oracleStates (now plan) ⌝ }
-    ensures { λ r. ⌜ r ≡ not (eqb (verdict (now (plan .entry)) oracle) 0) ⌝ }
-{
-    let at = oracle_at(plan, oracle);
-    plan[at] != 0
 }
 
 // The lane after interaction i, its event read; the table of choices is that of the state before it.
@@ -114,7 +86,7 @@ pub fn safe_move(plan: &[u8], run: Run, picks: &[u16; 256], cand: u64) -> Tried
         let rest = bits::without_lowest(left);
         let i = bits::lowest_bit(left);
         let moved = advance(plan, run, picks, i);
-        if is_good(plan, moved.oracle) {
+        if image::good(plan, moved.oracle) {
             return Tried {
                 found: i,
                 run: moved,

@@ -39,15 +39,15 @@ named c =
     ∙ walk-at 64 (a .run .marks) (markOk (a .plan .now) (configurationIn (a .run))) (l .left) (marks-lt s) (l .inv) (omega arith))
 
 -- whether its mark is kept, by what is_good answers
-judged : (c : tie.After-is-good Inv-loop μ-loop)
-    → markOk (c .before .before .before .before .before .before .before .before .args .plan .now) (configurationIn (c .before .before .before .before .before .before .before .before .args .run)) (lowest 64 (bit (c .before .before .before .before .loop .left))) ≡ not (c .is-good .result)
+judged : (c : tie.After-good2 Inv-loop μ-loop)
+    → markOk (c .before .before .before .before .before .before .before .before .args .plan .now) (configurationIn (c .before .before .before .before .before .before .before .before .args .run)) (lowest 64 (bit (c .before .before .before .before .loop .left))) ≡ not (c .good2 .result)
 judged c =
     let v = c .before in
     let b = v .before in
     let a = b .before .before .before .before .before .before .args in
     ap (markOk (a .plan .now) (configurationIn (a .run))) (sym (b .lowest-bit .ensures .0))
     ∙ mark-is (a .plan .now) (configurationIn (a .run)) (b .lowest-bit .result) (named b .0) (named b .1)
-    ∙ ap not (sym (c .is-good .ensures ∙ read-good (a .plan .now) (v .advance .result) (after (a .plan .now) (configurationIn (a .run)) (b .lowest-bit .result)) (a .run .marks) (v .advance .ensures .0)))
+    ∙ ap not (sym (c .good2 .ensures ∙ read-good (a .plan .now) (v .advance .result) (after (a .plan .now) (configurationIn (a .run)) (b .lowest-bit .result)) (a .run .marks) (v .advance .ensures .0)))
 
 inside-requires : tie.Need-inside-requires Inv-loop μ-loop
 inside-requires c κs = search needs
@@ -69,8 +69,8 @@ advance-requires c κs =
     let s = c .before .before .before .before .before .before in
     (s .pre .0, ((named c .0, s .pre .1 .0, eligible-enabled (s .args .plan .now) (stateOf (s .args .run)) (c .lowest-bit .result) (named c .1)), s .pre .1 .1 .0))
 
-is-good-requires : tie.Need-is-good-requires Inv-loop μ-loop
-is-good-requires c κs = (c .before .before .before .before .before .before .before .pre .0, c .advance .ensures .1)
+good-requires : tie.Need-good-requires Inv-loop μ-loop
+good-requires c κs = (c .before .before .before .before .before .before .before .pre .0, c .advance .ensures .1)
 
 returns-2 : tie.Need-returns-2 Inv-loop μ-loop
 unfolding marksOk
@@ -112,7 +112,7 @@ marks-ok-spec =
     loop-holds
     lowest-bit-requires
     advance-requires
-    is-good-requires
+    good-requires
     returns-2
     without-lowest-requires
     loop-less

@@ -25,10 +25,10 @@ length-is c = eq-eqb _ 312 (c .if2 .left)
 run-is : (c : tie.After-judge) → c .judge .result ≡ runOf (initial (c .before .before .before .before .before .before .before .args .plan .now)) 0
 run-is c = started (c .before .before .before .before .before .before .before .args .plan .now) (c .before .starting .result) (c .judge .result) (c .before .starting .ensures) (c .judge .ensures .0)
 
-good-is : (c : tie.After-is-good) → c .is-good .result ≡ good (c .before .before .before .before .before .before .before .before .args .plan .now) (initial (c .before .before .before .before .before .before .before .before .args .plan .now))
+good-is : (c : tie.After-good2) → c .good2 .result ≡ good (c .before .before .before .before .before .before .before .before .args .plan .now) (initial (c .before .before .before .before .before .before .before .before .args .plan .now))
 good-is c =
     let p = c .before .before .before .before .before .before .before .before .args .plan .now in
-    c .is-good .ensures ∙ read-good p (c .before .judge .result) (initial p) 0 (run-is (c .before))
+    c .good2 .ensures ∙ read-good p (c .before .judge .result) (initial p) 0 (run-is (c .before))
 
 check-requires : tie.Need-check-requires
 check-requires c κs = search needs
@@ -56,8 +56,8 @@ judge-requires c κs =
     let h = accepted-plan (c .before .before) in
     (h, subst (λ (x : ℕ). x < oracleStates p) (sym (read-oracle p (c .starting .result) _ _ (c .starting .ensures))) (first-oracle p h))
 
-is-good-requires : tie.Need-is-good-requires
-is-good-requires c κs = search needs
+good-requires : tie.Need-good-requires
+good-requires c κs = search needs
 
 returns-3 : tie.Need-returns-3
 unfolding answerOf
@@ -90,7 +90,7 @@ start-spec =
     returns-2
     starting-requires
     judge-requires
-    is-good-requires
+    good-requires
     returns-3
     store-requires
     same-length

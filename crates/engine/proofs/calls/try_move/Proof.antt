@@ -119,8 +119,8 @@ advance-requires c κs = let e = c .before .before .before .before .before .befo
       ),
     )
 
-is-good-requires : tie.Need-is-good-requires
-is-good-requires c κs = (past (c .before .before .before .before .before .before .before .before .before .before .before .before) .plan-taken, c .advance .ensures .1)
+good-requires : tie.Need-good-requires
+good-requires c κs = (past (c .before .before .before .before .before .before .before .before .before .before .before .before) .plan-taken, c .advance .ensures .1)
 
 store-requires : tie.Need-store-requires
 store-requires c κs = let w = past (c .before .before .before .before .before .before .before .before .before .before .before .before .before .before .before) in (w .plan-taken, w .image-long)
@@ -136,7 +136,7 @@ unfolding answerOf
 returns-6 c = let a = c .before .before .before .before .before .before in
     let e = a .before .before .before .before .before .before .before .before .before .before .before .before .before in
     let w = parts (ends-committed (e .examine .ensures .0) (e .examine .ensures .1) (a .before .before .before .before .before .before .before .before .before .before .before .before .if1 .left) (move e) (inside (a .before .before .before .before .before .before .before .before .before .before)) (able (a .before .before .before .before .before .before .before .before)) (top (a .before .before .before .before .before .before)) (unmarked (a .before .before .before))
-    (a .advance .result) (a .advance .ensures .0) (sym (c .before .before .before .before .before .is-good .ensures) ∙ c .before .before .before .before .if6 .taken)) in
+    (a .advance .result) (a .advance .ensures .0) (sym (c .before .before .before .before .before .good2 .ensures) ∙ c .before .before .before .before .if6 .taken)) in
     (w .0, c .before .before .store .ensures ∙ w .1)
 
 with-bit-requires : tie.Need-with-bit-requires
@@ -156,7 +156,7 @@ unfolding answerOf
 returns-7 c = let a = c .before .before .before .before .before .before .before in
     let e = a .before .before .before .before .before .before .before .before .before .before .before .before .before in
     let w = parts (ends-cancelled (e .examine .ensures .0) (e .examine .ensures .1) (a .before .before .before .before .before .before .before .before .before .before .before .before .if1 .left) (move e) (inside (a .before .before .before .before .before .before .before .before .before .before)) (able (a .before .before .before .before .before .before .before .before)) (top (a .before .before .before .before .before .before)) (unmarked (a .before .before .before))
-    (a .advance .result) (a .advance .ensures .0) (sym (c .before .before .before .before .before .before .is-good .ensures) ∙ c .before .before .before .before .before .if6 .left)) in
+    (a .advance .result) (a .advance .ensures .0) (sym (c .before .before .before .before .before .before .good2 .ensures) ∙ c .before .before .before .before .before .if6 .left)) in
     (w .0, c .before .before .put-marks .ensures ∙ ap (withMarks (image e)) (c .before .before .before .with-bit .ensures) ∙ w .1)
 
 pub try-move-spec : {M : Type 1} → statement M
@@ -179,7 +179,7 @@ try-move-spec =
     same-length-5
     returns-5
     advance-requires
-    is-good-requires
+    good-requires
     store-requires
     cast-t22
     same-length-6

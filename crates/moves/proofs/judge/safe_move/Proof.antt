@@ -25,13 +25,13 @@ abbrev ends : tie.Start Inv-loop μ-loop → ℕ → Bool
 ends s j = good (s .args .plan .now) (after (s .args .plan .now) (configurationIn (s .args .run)) j)
 
 -- the move that is tried is the lowest that is left, and its lane was looked at
-good-is : (c : tie.After-is-good Inv-loop μ-loop)
-    → let l = c .before .before .before .before .before in c .is-good .result ≡ ends (l .before .before) (lowest 64 (bit (l .loop .left)))
+good-is : (c : tie.After-good2 Inv-loop μ-loop)
+    → let l = c .before .before .before .before .before in c .good2 .result ≡ ends (l .before .before) (lowest 64 (bit (l .loop .left)))
 unfolding good
 good-is c =
     let b = c .before .before in
     let s = b .before .before .before .before .before in
-    c .is-good .ensures ∙ ap (λ (r : Run). not (eqb (verdict (s .args .plan .now) (r .oracle)) 0)) (c .before .advance .ensures .0)
+    c .good2 .ensures ∙ ap (λ (r : Run). not (eqb (verdict (s .args .plan .now) (r .oracle)) 0)) (c .before .advance .ensures .0)
     ∙ ap (ends s) (b .lowest-bit .ensures .0)
 
 loop-holds : tie.Need-loop-holds Inv-loop μ-loop
@@ -52,8 +52,8 @@ advance-requires c κs =
     let m = s .pre .1 .2 (c .lowest-bit .result) e in
     (s .pre .0, ((m .0, s .pre .1 .0, m .1), s .pre .1 .1))
 
-is-good-requires : tie.Need-is-good-requires Inv-loop μ-loop
-is-good-requires c κs = (c .before .before .before .before .before .before .pre .0, c .advance .ensures .1)
+good-requires : tie.Need-good-requires Inv-loop μ-loop
+good-requires c κs = (c .before .before .before .before .before .before .pre .0, c .advance .ensures .1)
 
 returns : tie.Need-returns Inv-loop μ-loop
 returns c =
@@ -99,7 +99,7 @@ safe-move-spec =
     without-lowest-requires
     lowest-bit-requires
     advance-requires
-    is-good-requires
+    good-requires
     returns
     loop-less
     loop-again

@@ -1,0 +1,14 @@
+#ifndef BASELINE_H
+#define BASELINE_H
+#include <stddef.h>
+#include <stdint.h>
+#define CALLS(pre) \
+  uint32_t pre##_check(const uint8_t *, size_t); \
+  uint32_t pre##_start(const uint8_t *, size_t, uint8_t *, size_t); \
+  uint32_t pre##_offered(const uint8_t *, size_t, const uint8_t *, size_t); \
+  uint64_t pre##_offered_bits(const uint8_t *, size_t, const uint8_t *, size_t); \
+  uint32_t pre##_try(const uint8_t *, size_t, uint8_t *, size_t, uint32_t); \
+  uint32_t pre##_settle(const uint8_t *, size_t, uint8_t *, size_t);
+CALLS(base)
+CALLS(yard)
+#endif
