@@ -1,17 +1,20 @@
-/* The engine of 01 in plain C: the yardstick for libyard.a. Stateless; each call checks plan and image anew.
-   Little-endian hosts only (fields are read by memcpy). */
+/* The engine of 01 in plain C, written for speed: the yardstick for libyard.a. Stateless; each call checks plan and
+   image anew. Little-endian hosts only (fields are read by memcpy). */
 #include "baseline.h"
 #include <string.h>
 
-#define REFUSED(n) (5u * 65536u + (n))
+#define ANSWER(kind, number) ((kind) * 65536u + (number))
+enum { ACCEPTED, COMMITTED, CANCELLED, STALLED, PENNED, REFUSED };
 
 static inline unsigned r16(const uint8_t *p) { uint16_t v; memcpy(&v, p, 2); return v; }
 static inline uint64_t r64(const uint8_t *p) { uint64_t v; memcpy(&v, p, 8); return v; }
+static inline unsigned lowest(uint64_t m) { return (unsigned)__builtin_ctzll(m); }
 
 typedef struct {
   const uint8_t *p;
   unsigned C, V, T, I, K, S, W, first, row;
   const uint8_t *comp, *var, *trans, *inter, *rank, *prop, *oracle, *code;
+  uint64_t owned[16]; /* the variables of each component */
 } Plan;
 
 /* What a move changes, laid out as image bytes 24 to 311. */
@@ -20,12 +23,111 @@ typedef struct {
   int32_t val[64];
 } Lane;
 
+/* The components that take part in an interaction, eight to a word: a byte that is not 0 for each. */
+typedef struct { uint64_t half[2]; } Parts;
+
+static inline Parts parts(const uint8_t *inter) { return (Parts){{~r64(inter), ~r64(inter + 8)}}; }
+
+/* Runs the body for each c that takes part. */
+#define EACH_PART(c, inter, body) do { \
+  Parts left_ = parts(inter); \
+  for (unsigned h_ = 0; h_ < 2; h_++) for (uint64_t w_ = left_.half[h_]; w_;) { \
+    unsigned b_ = lowest(w_) & 56u, c = 8 * h_ + b_ / 8; \
+    w_ &= ~(255ull << b_); \
+    body \
+  } } while (0)
+
 /* ---- the plan's check: 1 to 10 ---- */
 
-/* prop: kinds 4 and 5 allowed, empty refused. stores: kind 3 allowed, ends at depth 0. */
-static inline int span_ok(const Plan *x, int stores, int prop, uint64_t names, const uint8_t *rec) {
-  static const uint8_t pops[8] = {2, 2, 2, 2, 2, 2, 1, 2};
-  unsigned start = r16(rec), size = r16(rec + 2), d = 0;
+static inline int head_ok(const uint8_t *p, size_t len) {
+  return len >= 48 && !memcmp(p, "PLAN", 4) && !(r64(p + 40) >> 16);
+}
+
+static inline int counts_ok(Plan *x, const uint8_t *p) {
+  x->p = p;
+  x->C = r16(p + 10); x->V = r16(p + 12); x->T = r16(p + 14); x->I = r16(p + 16);
+  x->K = r16(p + 18); x->S = r16(p + 20); x->first = r16(p + 22); x->W = r16(p + 24);
+  return x->C - 1 < 16 && x->V <= 64 && x->T <= 256 && x->I - 1 < 64 && x->K <= 4 && x->S - 1 < 32 &&
+         x->first < x->S && x->W <= 4096;
+}
+
+static inline int layout_ok(Plan *x, size_t len) {
+  const uint8_t *p = x->p;
+  x->row = 1 + (1u << x->K);
+  unsigned s0 = 48, s1 = s0 + 4 * x->C, s2 = s1 + 8 * x->V, s3 = s2 + 12 * x->T, s4 = s3 + 24 * x->I;
+  unsigned s5 = s4 + 8 * x->I, s6 = s5 + 4 * x->K, s7 = s6 + x->row * x->S, end = s7 + 2 * x->W;
+  x->comp = p + s0; x->var = p + s1; x->trans = p + s2; x->inter = p + s3;
+  x->rank = p + s4; x->prop = p + s5; x->oracle = p + s6; x->code = p + s7;
+  return r16(p + 26) == s0 && r16(p + 28) == s1 && r16(p + 30) == s2 && r16(p + 32) == s3 && r16(p + 34) == s4 &&
+         r16(p + 36) == s5 && r16(p + 38) == s6 && r16(p + 40) == s7 && r16(p + 8) == end && len == end;
+}
+
+static inline int components_ok(const Plan *x) {
+  for (const uint8_t *r = x->comp; r < x->var; r += 4)
+    if (r[0] - 1u >= 16 || r[1] >= r[0] || r[2] - 1u >= 16 || r[3]) return 0;
+  return 1;
+}
+
+static inline int variables_ok(Plan *x) {
+  memset(x->owned, 0, sizeof x->owned);
+  for (unsigned v = 0; v < x->V; v++) {
+    const uint8_t *r = x->var + 8 * v;
+    if (r[0] >= x->C || r[1] || r[2] || r[3]) return 0;
+    x->owned[r[0]] |= 1ull << v;
+  }
+  return 1;
+}
+
+static inline int transitions_ok(const Plan *x) {
+  for (const uint8_t *r = x->trans; r < x->inter; r += 12) {
+    if (r[0] >= x->C) return 0;
+    const uint8_t *c = x->comp + 4 * r[0];
+    if (r[1] >= c[0] || r[2] >= c[2] || r[3] >= c[0]) return 0;
+  }
+  return 1;
+}
+
+typedef uint8_t Row __attribute__((vector_size(16))); /* the port bytes of an interaction */
+
+static inline int any(Row r) { uint64_t w[2]; memcpy(w, &r, 16); return (w[0] | w[1]) != 0; }
+
+static inline int interactions_ok(const Plan *x) {
+  Row row, ports = {0};
+  for (unsigned c = 0; c < x->C; c++) ports[c] = x->comp[4 * c + 2];
+  for (const uint8_t *r = x->inter; r < x->rank; r += 24) {
+    memcpy(&row, r, 16);
+    Row taken = (Row)(row != 255);
+    if (!any(taken) || any(taken & (Row)(row >= ports))) return 0;
+  }
+  return 1;
+}
+
+static inline int ranks_ok(const Plan *x) {
+  uint64_t none = x->I < 64 ? ~0ull << x->I : 0;
+  for (unsigned i = 0; i < x->I; i++) {
+    uint64_t row = r64(x->rank + 8 * i), above = 0;
+    for (uint64_t m = row & ~none; m; m &= m - 1) above |= r64(x->rank + 8 * lowest(m));
+    if (row & (none | 1ull << i) || above & ~row) return 0;
+  }
+  return 1;
+}
+
+static inline int oracle_ok(const Plan *x) {
+  for (const uint8_t *r = x->oracle; r < x->code; r += x->row) {
+    if (r[0] == 1 || r[0] > 3) return 0;
+    for (unsigned a = 1; a < x->row; a++) {
+      if (r[a] >= x->S) return 0;
+      if (r[0] != 2 && x->oracle[x->row * r[a]] != r[0]) return 0;
+    }
+  }
+  return 1;
+}
+
+#define ALWAYS_INLINE static inline __attribute__((always_inline))
+
+/* stores: an action or a transfer. prop: a proposition. */
+ALWAYS_INLINE int span_ok(const Plan *x, int stores, int prop, uint64_t names, const uint8_t *rec) {
+  unsigned start = r16(rec), size = r16(rec + 2), d = 0, two;
   if (size > 64 || start + size > x->W) return 0;
   if (size == 0) return !prop;
   const uint8_t *w = x->code + 2 * start, *end = w + 2 * size;
@@ -38,7 +140,7 @@ static inline int span_ok(const Plan *x, int stores, int prop, uint64_t names, c
     case 3: if (!stores || n >= 64 || !(names >> n & 1) || d < 1) return 0; d--; break;
     case 4: if (!prop || c >= x->C || l >= x->comp[4 * c]) return 0; d++; break;
     case 5: if (!prop || c >= x->C || (l != 255 && l >= x->comp[4 * c + 2])) return 0; d++; break;
-    case 6: if (n > 7 || d < pops[n]) return 0; d = d - pops[n] + 1; break;
+    case 6: two = n != 6; if (n > 7 || d <= two) return 0; d -= two; break;
     default: return 0;
     }
     if (d > 8) return 0;
@@ -46,77 +148,36 @@ static inline int span_ok(const Plan *x, int stores, int prop, uint64_t names, c
   return d == (stores ? 0u : 1u);
 }
 
-static unsigned check(Plan *x, const uint8_t *p, size_t len) {
-  if (len < 48 || memcmp(p, "PLAN", 4)) return 1;
-  for (int k = 42; k < 48; k++) if (p[k]) return 1;
+static int guard_ok(const Plan *x, uint64_t names, const uint8_t *rec) { return span_ok(x, 0, 0, names, rec); }
+static int action_ok(const Plan *x, uint64_t names, const uint8_t *rec) { return span_ok(x, 1, 0, names, rec); }
+static int prop_ok(const Plan *x, uint64_t names, const uint8_t *rec) { return span_ok(x, 0, 1, names, rec); }
 
-  x->p = p;
-  x->C = r16(p + 10); x->V = r16(p + 12); x->T = r16(p + 14); x->I = r16(p + 16);
-  x->K = r16(p + 18); x->S = r16(p + 20); x->first = r16(p + 22); x->W = r16(p + 24);
-  if (x->C < 1 || x->C > 16 || x->V > 64 || x->T > 256 || x->I < 1 || x->I > 64 || x->K > 4 ||
-      x->S < 1 || x->S > 32 || x->first >= x->S || x->W > 4096) return 2;
-
-  x->row = 1 + (1u << x->K);
-  unsigned size[8] = {4 * x->C, 8 * x->V, 12 * x->T, 24 * x->I, 8 * x->I, 4 * x->K, x->row * x->S, 2 * x->W};
-  unsigned at = 48, s[8];
-  for (int k = 0; k < 8; k++) { s[k] = at; if (r16(p + 26 + 2 * k) != at) return 3; at += size[k]; }
-  if (r16(p + 8) != at || len != at) return 3;
-  x->comp = p + s[0]; x->var = p + s[1]; x->trans = p + s[2]; x->inter = p + s[3];
-  x->rank = p + s[4]; x->prop = p + s[5]; x->oracle = p + s[6]; x->code = p + s[7];
-
-  for (unsigned c = 0; c < x->C; c++) {
-    const uint8_t *r = x->comp + 4 * c;
-    if (r[0] < 1 || r[0] > 16 || r[1] >= r[0] || r[2] < 1 || r[2] > 16 || r[3]) return 4;
+static inline int code_ok(const Plan *x) {
+  for (const uint8_t *r = x->trans; r < x->inter; r += 12) {
+    uint64_t names = x->owned[r[0]];
+    if (!guard_ok(x, names, r + 4) || !action_ok(x, names, r + 8)) return 0;
   }
-  uint64_t owned[16] = {0};
-  for (unsigned v = 0; v < x->V; v++) {
-    const uint8_t *r = x->var + 8 * v;
-    if (r[0] >= x->C || r[1] || r[2] || r[3]) return 5;
-    owned[r[0]] |= 1ull << v;
-  }
-  for (unsigned t = 0; t < x->T; t++) {
-    const uint8_t *r = x->trans + 12 * t;
-    if (r[0] >= x->C) return 6;
-    const uint8_t *c = x->comp + 4 * r[0];
-    if (r[1] >= c[0] || r[2] >= c[2] || r[3] >= c[0]) return 6;
-  }
-  uint64_t names[64];
-  for (unsigned i = 0; i < x->I; i++) {
-    const uint8_t *r = x->inter + 24 * i;
-    int any = 0;
-    uint64_t m = 0;
-    for (unsigned c = 0; c < 16; c++) if (r[c] != 255) {
-      if (c >= x->C || r[c] >= x->comp[4 * c + 2]) return 7;
-      any = 1;
-      m |= owned[c];
-    }
-    if (!any) return 7;
-    names[i] = m;
-  }
-  for (unsigned i = 0; i < x->I; i++) {
-    uint64_t w = r64(x->rank + 8 * i);
-    if (x->I < 64 && w >> x->I) return 8;
-    if (w >> i & 1) return 8;
-    for (uint64_t m = w; m; m &= m - 1) if (r64(x->rank + 8 * __builtin_ctzll(m)) & ~w) return 8;
-  }
-  for (unsigned q = 0; q < x->S; q++) {
-    const uint8_t *r = x->oracle + x->row * q;
-    if (r[0] == 1 || r[0] > 3) return 9;
-    for (unsigned a = 1; a < x->row; a++) {
-      if (r[a] >= x->S) return 9;
-      if (r[0] != 2 && x->oracle[x->row * r[a]] != r[0]) return 9;
-    }
-  }
-  for (unsigned t = 0; t < x->T; t++) {
-    const uint8_t *r = x->trans + 12 * t;
-    if (!span_ok(x, 0, 0, owned[r[0]], r + 4) || !span_ok(x, 1, 0, owned[r[0]], r + 8)) return 10;
-  }
-  for (unsigned i = 0; i < x->I; i++) {
-    const uint8_t *r = x->inter + 24 * i;
-    if (!span_ok(x, 0, 0, names[i], r + 16) || !span_ok(x, 1, 0, names[i], r + 20)) return 10;
+  for (const uint8_t *r = x->inter; r < x->rank; r += 24) {
+    uint64_t names = 0;
+    if (r16(r + 18) | r16(r + 22)) EACH_PART(c, r, names |= x->owned[c];);
+    if (!guard_ok(x, names, r + 16) || !action_ok(x, names, r + 20)) return 0;
   }
   uint64_t all = x->V == 64 ? ~0ull : (1ull << x->V) - 1;
-  for (unsigned k = 0; k < x->K; k++) if (!span_ok(x, 0, 1, all, x->prop + 4 * k)) return 10;
+  for (const uint8_t *r = x->prop; r < x->oracle; r += 4) if (!prop_ok(x, all, r)) return 0;
+  return 1;
+}
+
+static unsigned check(Plan *x, const uint8_t *p, size_t len) {
+  if (!head_ok(p, len)) return 1;
+  if (!counts_ok(x, p)) return 2;
+  if (!layout_ok(x, len)) return 3;
+  if (!components_ok(x)) return 4;
+  if (!variables_ok(x)) return 5;
+  if (!transitions_ok(x)) return 6;
+  if (!interactions_ok(x)) return 7;
+  if (!ranks_ok(x)) return 8;
+  if (!oracle_ok(x)) return 9;
+  if (!code_ok(x)) return 10;
   return 0;
 }
 
@@ -124,35 +185,30 @@ static unsigned check(Plan *x, const uint8_t *p, size_t len) {
 
 /* Runs a span that passed the check. Answers the value left on the stack (guards and propositions). */
 static int32_t run(const Plan *x, const uint8_t *rec, Lane *lane) {
-  int32_t st[9];
-  unsigned d = 0; /* st[d] is the top; st[0] lies below the stack */
+  int32_t st[9], top = 0, *sp = st; /* the top lies beside the stack; st[0] is no value */
   const uint8_t *w = x->code + 2 * r16(rec), *end = w + 2 * r16(rec + 2);
-  st[0] = 0;
   for (; w < end; w += 2) {
-    unsigned word = r16(w), n = word & 4095;
-    switch (word >> 12) {
-    case 0: st[++d] = (int32_t)n; break;
-    case 1: st[d] = (int32_t)((uint32_t)st[d] * 4096u + n); break;
-    case 2: st[++d] = lane->val[n]; break;
-    case 3: lane->val[n] = st[d--]; break;
-    case 4: st[++d] = lane->loc[n >> 8] == (n & 255); break;
-    case 5: st[++d] = lane->last[n >> 8] == (n & 255); break;
-    default: {
-      if (n == 6) { st[d] = !st[d]; break; }
-      int32_t r = st[d--], l = st[d];
-      switch (n) {
-      case 0: st[d] = (int32_t)((uint32_t)l + (uint32_t)r); break;
-      case 1: st[d] = (int32_t)((uint32_t)l - (uint32_t)r); break;
-      case 2: st[d] = l == r; break;
-      case 3: st[d] = l >= r; break;
-      case 4: st[d] = l && r; break;
-      case 5: st[d] = l || r; break;
-      default: st[d] = !l || r; break;
-      }
-    }
+    unsigned word = r16(w), n = word & 4095, op = word >> 12;
+    if (op == 6) op += n;
+    switch (op) {
+    case 0: *sp++ = top; top = (int32_t)n; break;
+    case 1: top = (int32_t)((uint32_t)top * 4096u + n); break;
+    case 2: *sp++ = top; top = lane->val[n]; break;
+    case 3: lane->val[n] = top; top = *--sp; break;
+    case 4: *sp++ = top; top = lane->loc[n >> 8] == (n & 255); break;
+    case 5: *sp++ = top; top = lane->last[n >> 8] == (n & 255); break;
+    case 6: top = (int32_t)((uint32_t)*--sp + (uint32_t)top); break;
+    case 7: top = (int32_t)((uint32_t)*--sp - (uint32_t)top); break;
+    case 8: top = *--sp == top; break;
+    case 9: top = *--sp >= top; break;
+    case 10: sp--; top = (*sp != 0) & (top != 0); break;
+    case 11: sp--; top = (*sp | top) != 0; break;
+    case 12: top = !top; break;
+    case 13: sp--; top = (*sp == 0) | (top != 0); break;
+    default: __builtin_unreachable();
     }
   }
-  return st[d];
+  return top;
 }
 
 static inline int holds(const Plan *x, const uint8_t *rec, const Lane *lane) {
@@ -166,32 +222,34 @@ typedef struct {
   uint64_t enabled, candidates;
 } Moves;
 
-static void moves(const Plan *x, const Lane *lane, Moves *m) {
-  memset(m->chosen, 0, sizeof m->chosen);
+static inline void choose(const Plan *x, const Lane *lane, Moves *m) {
+  memset(m->chosen, 0, x->C * sizeof m->chosen[0]);
   for (unsigned t = 0; t < x->T; t++) {
     const uint8_t *r = x->trans + 12 * t;
     if (lane->loc[r[0]] != r[1]) continue;
     uint16_t *slot = &m->chosen[r[0]][r[2]];
     if (*slot == 0 && holds(x, r + 4, lane)) *slot = (uint16_t)(t + 1);
   }
-  uint64_t enabled = 0, candidates = 0;
-  for (unsigned i = 0; i < x->I; i++) {
-    const uint8_t *r = x->inter + 24 * i;
-    int ok = 1;
-    for (unsigned c = 0; c < x->C; c++) if (r[c] != 255 && !m->chosen[c][r[c]]) { ok = 0; break; }
-    if (ok && holds(x, r + 16, lane)) enabled |= 1ull << i;
-  }
-  for (uint64_t e = enabled; e; e &= e - 1) {
-    unsigned i = (unsigned)__builtin_ctzll(e);
-    if (!(r64(x->rank + 8 * i) & enabled)) candidates |= 1ull << i;
-  }
-  m->enabled = enabled;
-  m->candidates = candidates;
+}
+
+static inline int enabled(const Plan *x, const Lane *lane, const Moves *m, const uint8_t *inter) {
+  EACH_PART(c, inter, if (!m->chosen[c][inter[c]]) return 0;);
+  return holds(x, inter + 16, lane);
+}
+
+static void moves(const Plan *x, const Lane *lane, Moves *m) {
+  uint64_t all = 0, standing = 0;
+  choose(x, lane, m);
+  for (unsigned i = 0; i < x->I; i++) if (enabled(x, lane, m, x->inter + 24 * i)) all |= 1ull << i;
+  for (uint64_t e = all; e; e &= e - 1)
+    if (!(r64(x->rank + 8 * lowest(e)) & all)) standing |= e & -e;
+  m->enabled = all;
+  m->candidates = standing;
 }
 
 static inline unsigned judged(const Plan *x, unsigned q, Lane *lane) {
   unsigned letter = 0;
-  for (unsigned k = 0; k < x->K; k++) if (run(x, x->prop + 4 * k, lane)) letter |= 1u << k;
+  for (unsigned k = 0; k < x->K; k++) letter |= (unsigned)(run(x, x->prop + 4 * k, lane) != 0) << k;
   return x->oracle[x->row * q + 1 + letter];
 }
 
@@ -201,13 +259,13 @@ static inline int good(const Plan *x, unsigned q) { return x->oracle[x->row * q]
 static unsigned fire(const Plan *x, const Lane *old, unsigned q, const Moves *m, unsigned i, Lane *new) {
   const uint8_t *r = x->inter + 24 * i;
   *new = *old;
-  run(x, r + 20, new);
-  for (unsigned c = 0; c < x->C; c++) if (r[c] != 255) {
+  if (r16(r + 22)) run(x, r + 20, new);
+  EACH_PART(c, r, {
     const uint8_t *t = x->trans + 12 * (m->chosen[c][r[c]] - 1u);
-    run(x, t + 8, new);
+    if (r16(t + 10)) run(x, t + 8, new);
     new->loc[c] = t[3];
     new->last[c] = r[c];
-  }
+  });
   return judged(x, q, new);
 }
 
@@ -226,31 +284,52 @@ static inline void commit(uint8_t *b, unsigned q, const Lane *lane) {
   memcpy(b + 24, lane, 288);
 }
 
+static inline int head_matches(const Plan *x, const uint8_t *b) {
+  return !memcmp(b, "YARD", 4) && b[4] == 1 && b[5] == x->C && b[6] == x->V && b[7] == x->I && !b[9] && !b[10] &&
+         !b[11] && !memcmp(b + 12, x->p + 4, 4);
+}
+
+static inline int state_ok(const Plan *x, unsigned q, const Lane *lane) {
+  if (q >= x->S || !good(x, q)) return 0;
+  for (unsigned c = 0; c < x->C; c++) {
+    const uint8_t *r = x->comp + 4 * c;
+    if (lane->loc[c] >= r[0] || (lane->last[c] != 255 && lane->last[c] >= r[2])) return 0;
+  }
+  for (unsigned c = x->C; c < 16; c++) if (lane->loc[c] || lane->last[c] != 255) return 0;
+  int32_t filled = 0;
+  for (unsigned v = x->V; v < 64; v++) filled |= lane->val[v];
+  return !filled;
+}
+
+/* A plan and an image that were read. */
+typedef struct {
+  Plan plan;
+  Lane lane;
+  Moves moves;
+  unsigned oracle;
+  uint64_t marks;
+} Site;
+
+static int marks_ok(const Site *s) {
+  Lane new;
+  if (s->marks & ~s->moves.candidates) return 0;
+  for (uint64_t k = s->marks; k; k &= k - 1)
+    if (good(&s->plan, fire(&s->plan, &s->lane, s->oracle, &s->moves, lowest(k), &new))) return 0;
+  return 1;
+}
+
 /* Plan and image in, refusals 1 to 14. */
-static unsigned enter(Plan *x, Lane *lane, Moves *m, uint64_t *marks, const uint8_t *plan, size_t plan_len,
-                      const uint8_t *b, size_t image_len) {
-  unsigned n = check(x, plan, plan_len);
+static unsigned enter(Site *s, const uint8_t *plan, size_t plan_len, const uint8_t *b, size_t image_len) {
+  unsigned n = check(&s->plan, plan, plan_len);
   if (n) return n;
   if (image_len != 312) return 11;
-  if (memcmp(b, "YARD", 4) || b[4] != 1 || b[5] != x->C || b[6] != x->V || b[7] != x->I ||
-      b[9] || b[10] || b[11] || memcmp(b + 12, x->p + 4, 4)) return 12;
-  if (b[8] >= x->S || !good(x, b[8])) return 13;
-  memcpy(lane, b + 24, 288);
-  for (unsigned c = 0; c < 16; c++) {
-    if (c < x->C) {
-      const uint8_t *r = x->comp + 4 * c;
-      if (lane->loc[c] >= r[0] || (lane->last[c] != 255 && lane->last[c] >= r[2])) return 13;
-    } else if (lane->loc[c] || lane->last[c] != 255) return 13;
-  }
-  for (unsigned v = x->V; v < 64; v++) if (lane->val[v]) return 13;
-  *marks = r64(b + 16);
-  moves(x, lane, m);
-  if (*marks & ~m->candidates) return 14;
-  for (uint64_t k = *marks; k; k &= k - 1) {
-    Lane new;
-    if (good(x, fire(x, lane, b[8], m, (unsigned)__builtin_ctzll(k), &new))) return 14;
-  }
-  return 0;
+  if (!head_matches(&s->plan, b)) return 12;
+  s->oracle = b[8];
+  s->marks = r64(b + 16);
+  memcpy(&s->lane, b + 24, 288);
+  if (!state_ok(&s->plan, s->oracle, &s->lane)) return 13;
+  moves(&s->plan, &s->lane, &s->moves);
+  return marks_ok(s) ? 0 : 14;
 }
 
 /* ---- the calls ---- */
@@ -258,62 +337,64 @@ static unsigned enter(Plan *x, Lane *lane, Moves *m, uint64_t *marks, const uint
 uint32_t base_check(const uint8_t *plan, size_t plan_len) {
   Plan x;
   unsigned n = check(&x, plan, plan_len);
-  return n ? REFUSED(n) : 0;
+  return n ? ANSWER(REFUSED, n) : ANSWER(ACCEPTED, 0);
 }
 
 uint32_t base_start(const uint8_t *plan, size_t plan_len, uint8_t *image, size_t image_len) {
   Plan x;
   Lane lane;
   unsigned n = check(&x, plan, plan_len);
-  if (n) return REFUSED(n);
-  if (image_len != 312) return REFUSED(11);
+  if (n) return ANSWER(REFUSED, n);
+  if (image_len != 312) return ANSWER(REFUSED, 11);
   memset(&lane, 0, sizeof lane);
   memset(lane.last, 255, 16);
   for (unsigned c = 0; c < x.C; c++) lane.loc[c] = x.comp[4 * c + 1];
   for (unsigned v = 0; v < x.V; v++) memcpy(&lane.val[v], x.var + 8 * v + 4, 4);
   unsigned q = judged(&x, x.first, &lane);
-  if (!good(&x, q)) return REFUSED(15);
+  if (!good(&x, q)) return ANSWER(REFUSED, 15);
   put_head(&x, image);
   commit(image, q, &lane);
-  return 0;
+  return ANSWER(ACCEPTED, 0);
 }
 
 uint32_t base_offered(const uint8_t *plan, size_t plan_len, const uint8_t *image, size_t image_len) {
-  Plan x; Lane lane; Moves m; uint64_t marks;
-  unsigned n = enter(&x, &lane, &m, &marks, plan, plan_len, image, image_len);
-  return n ? REFUSED(n) : 0;
+  Site s;
+  unsigned n = enter(&s, plan, plan_len, image, image_len);
+  return n ? ANSWER(REFUSED, n) : ANSWER(ACCEPTED, 0);
 }
 
 uint64_t base_offered_bits(const uint8_t *plan, size_t plan_len, const uint8_t *image, size_t image_len) {
-  Plan x; Lane lane; Moves m; uint64_t marks;
-  if (enter(&x, &lane, &m, &marks, plan, plan_len, image, image_len)) return 0;
-  return m.candidates & ~marks;
+  Site s;
+  if (enter(&s, plan, plan_len, image, image_len)) return 0;
+  return s.moves.candidates & ~s.marks;
 }
 
 uint32_t base_try(const uint8_t *plan, size_t plan_len, uint8_t *image, size_t image_len, uint32_t i) {
-  Plan x; Lane lane, new; Moves m; uint64_t marks;
-  unsigned n = enter(&x, &lane, &m, &marks, plan, plan_len, image, image_len);
-  if (n) return REFUSED(n);
-  if (i >= x.I) return REFUSED(16);
-  if (!(m.enabled >> i & 1)) return REFUSED(17);
-  if (!(m.candidates >> i & 1)) return REFUSED(18);
-  if (marks >> i & 1) return REFUSED(19);
-  unsigned q = fire(&x, &lane, image[8], &m, i, &new);
-  if (good(&x, q)) { commit(image, q, &new); return 1 * 65536 + i; }
-  marks |= 1ull << i;
-  memcpy(image + 16, &marks, 8);
-  return 2 * 65536 + i;
+  Site s;
+  Lane new;
+  unsigned n = enter(&s, plan, plan_len, image, image_len);
+  if (n) return ANSWER(REFUSED, n);
+  if (i >= s.plan.I) return ANSWER(REFUSED, 16);
+  if (!(s.moves.enabled >> i & 1)) return ANSWER(REFUSED, 17);
+  if (!(s.moves.candidates >> i & 1)) return ANSWER(REFUSED, 18);
+  if (s.marks >> i & 1) return ANSWER(REFUSED, 19);
+  unsigned q = fire(&s.plan, &s.lane, s.oracle, &s.moves, i, &new);
+  if (good(&s.plan, q)) { commit(image, q, &new); return ANSWER(COMMITTED, i); }
+  s.marks |= 1ull << i;
+  memcpy(image + 16, &s.marks, 8);
+  return ANSWER(CANCELLED, i);
 }
 
 uint32_t base_settle(const uint8_t *plan, size_t plan_len, uint8_t *image, size_t image_len) {
-  Plan x; Lane lane, new; Moves m; uint64_t marks;
-  unsigned n = enter(&x, &lane, &m, &marks, plan, plan_len, image, image_len);
-  if (n) return REFUSED(n);
-  for (uint64_t k = m.candidates & ~marks; k; k &= k - 1) {
-    unsigned i = (unsigned)__builtin_ctzll(k), q = fire(&x, &lane, image[8], &m, i, &new);
-    if (good(&x, q)) { commit(image, q, &new); return 1 * 65536 + i; }
+  Site s;
+  Lane new;
+  unsigned n = enter(&s, plan, plan_len, image, image_len);
+  if (n) return ANSWER(REFUSED, n);
+  for (uint64_t k = s.moves.candidates & ~s.marks; k; k &= k - 1) {
+    unsigned i = lowest(k), q = fire(&s.plan, &s.lane, s.oracle, &s.moves, i, &new);
+    if (good(&s.plan, q)) { commit(image, q, &new); return ANSWER(COMMITTED, i); }
   }
-  if (!m.enabled) return 3 * 65536;
-  memcpy(image + 16, &m.candidates, 8);
-  return 4 * 65536;
+  if (!s.moves.enabled) return ANSWER(STALLED, 0);
+  memcpy(image + 16, &s.moves.candidates, 8);
+  return ANSWER(PENNED, 0);
 }

@@ -1,0 +1,42 @@
+//! A difference found: its report, and the files to replay it with.
+
+use std::{env, fs};
+
+use crate::checked::{Call, Reply};
+
+pub struct Difference {
+    /// What differs.
+    pub what: &'static str,
+    pub call: Call,
+    pub call_number: u64,
+    pub library: Reply,
+    pub expected: Reply,
+    /// The first byte of the image that differs, if one does.
+    pub first_byte: Option<usize>,
+    pub plan: Vec<u8>,
+    /// The image before the call.
+    pub image: Vec<u8>,
+}
+
+impl Difference {
+    pub fn report(&self, seed: u64) {
+        println!("seed {seed}, call {}: {:?}", self.call_number, self.call);
+        println!("different: {}", self.what);
+        println!("library  {:?}", self.library);
+        println!("expected {:?}", self.expected);
+        match self.first_byte {
+            Some(at) => println!("the images after the call differ from byte {at} on"),
+            None => println!("the images after the call are equal"),
+        }
+        self.save(seed, "plan", &self.plan);
+        self.save(seed, "image", &self.image);
+    }
+
+    fn save(&self, seed: u64, kind: &str, bytes: &[u8]) {
+        let path = env::temp_dir().join(format!("compare-{seed}-{}.{kind}", self.call_number));
+        match fs::write(&path, bytes) {
+            Ok(()) => println!("{kind} before the call: {}", path.display()),
+            Err(error) => println!("{}: {error}", path.display()),
+        }
+    }
+}

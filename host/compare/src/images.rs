@@ -1,0 +1,88 @@
+//! Images damaged on purpose or at random, and lawful images that no call wrote.
+
+use reference::draft::Draft;
+
+use crate::generate;
+use crate::rng::Rng;
+
+/// The image with one to three faults; a few remain lawful.
+pub fn damaged(rng: &mut Rng, image: &[u8], draft: &Draft, other: &[u8]) -> Vec<u8> {
+    let mut bytes = image.to_vec();
+    for _ in 0..rng.pick(&[1, 1, 1, 2, 3]) {
+        damage_once(rng, &mut bytes, draft);
+    }
+    match rng.below(20) {
+        0..=2 => resize(rng, &mut bytes),
+        3 => bytes = other.to_vec(),
+        _ => {}
+    }
+    bytes
+}
+
+/// Changes one byte or mark of the 312.
+fn damage_once(rng: &mut Rng, bytes: &mut [u8], draft: &Draft) {
+    let component = rng.below(draft.components.len());
+    match rng.below(12) {
+        0 => bytes[rng.below(16)] ^= 1 << rng.below(8),
+        1 => bytes[8] = rng.below(draft.oracle.len() + 2) as u8,
+        2 => bytes[24 + component] = rng.below(17) as u8,
+        3 => bytes[40 + component] = port(rng),
+        4 => bytes[rng.between(24, 55)] ^= 1 << rng.below(8),
+        5 => bytes[rng.between(56, 311)] ^= 1 << rng.below(8),
+        6 => bytes[rng.between(9, 15)] = rng.byte(),
+        7 => bytes[16..24].fill(rng.byte()),
+        8..=10 => toggle_mark(rng, bytes, draft.interactions.len() + 1),
+        _ => bytes[rng.below(312)] = rng.byte(),
+    }
+}
+
+fn port(rng: &mut Rng) -> u8 {
+    match rng.below(20) {
+        17 => 128,
+        18 => 254,
+        19 => 255,
+        port => port as u8,
+    }
+}
+
+/// Flips a mark, most often one of the plan's interactions.
+fn toggle_mark(rng: &mut Rng, bytes: &mut [u8], interactions: usize) {
+    let mark = if rng.chance(90) {
+        rng.below(interactions).min(63)
+    } else {
+        rng.below(64)
+    };
+    bytes[16 + mark / 8] ^= 1 << (mark % 8);
+}
+
+fn resize(rng: &mut Rng, bytes: &mut Vec<u8>) {
+    let length = match rng.below(4) {
+        0 => rng.below(312),
+        1 => rng.pick(&[0, 1, 16, 24, 56]),
+        2 => rng.pick(&[313, 320, 624]),
+        _ => 311,
+    };
+    bytes.resize(length, 0);
+}
+
+/// The image with another state, each entry within its range, and few marks.
+pub fn redressed(rng: &mut Rng, image: &[u8], draft: &Draft) -> Vec<u8> {
+    let mut bytes = image.to_vec();
+    for (c, component) in draft.components.iter().enumerate() {
+        bytes[24 + c] = rng.below(component.locations.into()) as u8;
+        bytes[40 + c] = if rng.chance(20) {
+            255
+        } else {
+            rng.below(component.ports.into()) as u8
+        };
+    }
+    for n in 0..draft.variables.len() {
+        bytes[56 + 4 * n..][..4].copy_from_slice(&generate::value(rng).to_le_bytes());
+    }
+    bytes[8] = rng.below(draft.oracle.len()) as u8;
+    bytes[16..24].fill(0);
+    if rng.chance(30) {
+        toggle_mark(rng, &mut bytes, draft.interactions.len());
+    }
+    bytes
+}

@@ -1,0 +1,172 @@
+//! Random sequences of calls on random plans, held against the reference and the book.
+
+use reference::answer::Answer;
+use reference::book::Book;
+use reference::draft::Draft;
+use reference::image::IMAGE_BYTES;
+use reference::plan::Plan;
+
+use crate::checked::{self, Call, Checked, Outcome, Reply};
+use crate::difference::Difference;
+use crate::lent::Lent;
+use crate::rng::Rng;
+use crate::tally::Tally;
+use crate::{damage, generate, images};
+
+pub struct Session {
+    rng: Rng,
+    pub tally: Tally,
+    /// An image that another plan reached.
+    other: Vec<u8>,
+}
+
+impl Session {
+    pub fn new(seed: u64) -> Session {
+        Session {
+            rng: Rng::new(seed),
+            tally: Tally::default(),
+            other: vec![0; IMAGE_BYTES],
+        }
+    }
+
+    /// One lawful plan: a sequence of calls with others between, then calls on damaged plans.
+    pub fn round(&mut self) -> Checked<()> {
+        let made = generate::plan(&mut self.rng);
+        self.tally.plan(&made);
+        let plan = Lent::new(&mut self.rng, &made.draft.bytes());
+        let mut image = vec![0; IMAGE_BYTES];
+        self.rng.fill(&mut image);
+        self.call(&plan, &image, Call::Check)?;
+        let damaged = images::damaged(&mut self.rng, &image, &made.draft, &self.other);
+        self.call(&plan, &damaged, Call::Start)?;
+        let started = self.call(&plan, &image, Call::Start)?;
+        image = started.image;
+        if started.answer == Answer::Accepted {
+            image = self.sequence(&made.draft, &plan, image)?;
+            self.other.clone_from(&image);
+        }
+        for _ in 0..4 {
+            self.damaged_plan(&made.draft, &image)?;
+        }
+        Ok(())
+    }
+
+    /// The calls after an accepted start; gives the last image.
+    fn sequence(&mut self, draft: &Draft, plan: &Lent, started: Vec<u8>) -> Checked<Vec<u8>> {
+        let lawful = Plan::read(plan.original()).expect("a started plan is lawful");
+        let mut book = Book::new(lawful);
+        let mut image = started;
+        let mut offer = 0;
+        let (mut calls, mut moves) = (0, 0);
+        for _ in 0..self.rng.pick(&[4, 12, 12, 30, 60]) {
+            self.detour(draft, plan, &image)?;
+            let call = self.next_call(draft.interactions.len(), offer);
+            let outcome = self.call(plan, &image, call)?;
+            self.hold_against(&mut book, plan, &image, call, &outcome)?;
+            image = outcome.image;
+            calls += 1;
+            match outcome.answer {
+                Answer::Accepted => offer = outcome.bits,
+                Answer::Committed(_) => moves += 1,
+                Answer::Stalled | Answer::Penned if self.rng.chance(50) => break,
+                _ => {}
+            }
+        }
+        self.tally.sequence(calls, moves);
+        Ok(image)
+    }
+
+    fn call(&mut self, plan: &Lent, image: &[u8], call: Call) -> Checked<Outcome> {
+        checked::compare(&mut self.rng, &mut self.tally, plan, image, call)
+    }
+
+    /// Now and then, calls apart from the sequence: on another image or with a damaged plan.
+    fn detour(&mut self, draft: &Draft, plan: &Lent, image: &[u8]) -> Checked<()> {
+        match self.rng.below(20) {
+            0..=3 => {
+                let damaged = images::damaged(&mut self.rng, image, draft, &self.other);
+                self.any_call(draft, plan, &damaged)?;
+            }
+            4 => {
+                let redressed = images::redressed(&mut self.rng, image, draft);
+                let outcome = self.any_call(draft, plan, &redressed)?;
+                self.any_call(draft, plan, &outcome.image)?;
+            }
+            5 => self.damaged_plan(draft, image)?,
+            _ => {}
+        }
+        Ok(())
+    }
+
+    /// A check of a damaged plan, and another call with it.
+    fn damaged_plan(&mut self, draft: &Draft, image: &[u8]) -> Checked<()> {
+        let bytes = damage::plan(&mut self.rng, draft);
+        let plan = Lent::new(&mut self.rng, &bytes);
+        self.call(&plan, image, Call::Check)?;
+        if self.rng.chance(5) {
+            let damaged = images::damaged(&mut self.rng, image, draft, &self.other);
+            self.any_call(draft, &plan, &damaged)?;
+        }
+        self.any_call(draft, &plan, image)?;
+        Ok(())
+    }
+
+    fn any_call(&mut self, draft: &Draft, plan: &Lent, image: &[u8]) -> Checked<Outcome> {
+        let call = self.next_call(draft.interactions.len(), 0);
+        self.call(plan, image, call)
+    }
+
+    /// A call for a sequence; a try is often of a move that was on offer.
+    fn next_call(&mut self, interactions: usize, offer: u64) -> Call {
+        match self.rng.below(100) {
+            0..=2 => Call::Start,
+            3..=8 => Call::Offered,
+            9..=19 => Call::Bits,
+            20..=44 => Call::Settle,
+            _ => Call::Try(self.number(interactions, offer)),
+        }
+    }
+
+    fn number(&mut self, interactions: usize, offer: u64) -> u32 {
+        let on_offer: Vec<u32> = (0..64).filter(|&i| offer >> i & 1 == 1).collect();
+        match self.rng.below(100) {
+            0..=49 if !on_offer.is_empty() => self.rng.pick(&on_offer),
+            96 => interactions as u32,
+            97 => self.rng.pick(&[64, 65, 255, 256, 65_536, u32::MAX]),
+            98 => (self.rng.below(interactions) as u32) | 1 << self.rng.between(6, 31),
+            99 => self.rng.next() as u32,
+            _ => self.rng.below(interactions) as u32,
+        }
+    }
+
+    /// Feeds the book the call; its answer and its image must be the outcome's.
+    fn hold_against(
+        &mut self,
+        book: &mut Book,
+        plan: &Lent,
+        image: &[u8],
+        call: Call,
+        outcome: &Outcome,
+    ) -> Checked<()> {
+        let Some(told) = call.told() else {
+            return Ok(());
+        };
+        let (answer, bits) = book.call(told);
+        let library = Reply::of(call, outcome.answer, outcome.bits);
+        let expected = Reply::of(call, answer, bits);
+        let first_byte = checked::first_difference(&outcome.image, &book.image());
+        if library == expected && first_byte.is_none() {
+            return Ok(());
+        }
+        Err(Box::new(Difference {
+            what: "answer or image of the book",
+            call,
+            call_number: self.tally.calls,
+            library,
+            expected,
+            first_byte,
+            plan: plan.original().to_vec(),
+            image: image.to_vec(),
+        }))
+    }
+}

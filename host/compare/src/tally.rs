@@ -1,0 +1,127 @@
+//! How often each call, answer and refusal occurred.
+
+use std::fmt;
+
+use reference::answer::Answer;
+use reference::draft::Draft;
+
+use crate::checked::Call;
+use crate::generate::Generated;
+
+const CALLS: [&str; 6] = ["check", "start", "offered", "bits", "try", "settle"];
+const KINDS: [&str; 6] = [
+    "accepted",
+    "committed",
+    "cancelled",
+    "stalled",
+    "penned",
+    "refused",
+];
+const SIZES: [&str; 9] = [
+    "components",
+    "variables",
+    "transitions",
+    "interactions",
+    "propositions",
+    "oracle states",
+    "code words",
+    "words in a span",
+    "depth",
+];
+
+#[derive(Default)]
+pub struct Tally {
+    pub calls: u64,
+    answers: [[u64; 6]; 6],
+    refusals: [u64; 20],
+    plans: u64,
+    largest: [usize; 9],
+    book: u64,
+    most_moves: usize,
+}
+
+impl Tally {
+    pub fn count(&mut self, call: Call, answer: Answer) {
+        self.calls += 1;
+        self.answers[call.row()][answer.kind() as usize] += 1;
+        if let Answer::Refused(refusal) = answer {
+            self.refusals[refusal as usize] += 1;
+        }
+    }
+
+    pub fn plan(&mut self, made: &Generated) {
+        self.plans += 1;
+        for (largest, size) in self.largest.iter_mut().zip(sizes(made)) {
+            *largest = size.max(*largest);
+        }
+    }
+
+    /// Counts one sequence: its calls, which the book was told of, and its moves.
+    pub fn sequence(&mut self, calls: u64, moves: usize) {
+        self.book += calls;
+        self.most_moves = moves.max(self.most_moves);
+    }
+
+    /// The answer kinds and refusals that never occurred.
+    pub fn missing(&self) -> Vec<String> {
+        let kinds = (0..6).filter(|&kind| self.answers.iter().all(|row| row[kind] == 0));
+        let refusals = (1..20).filter(|&n| self.refusals[n] == 0);
+        kinds
+            .map(|kind| KINDS[kind].to_string())
+            .chain(refusals.map(|n| format!("refusal {n}")))
+            .collect()
+    }
+}
+
+fn sizes(made: &Generated) -> [usize; 9] {
+    let draft = &made.draft;
+    [
+        draft.components.len(),
+        draft.variables.len(),
+        draft.transitions.len(),
+        draft.interactions.len(),
+        draft.propositions.len(),
+        draft.oracle.len(),
+        draft.code.len(),
+        longest_span(draft),
+        made.depth,
+    ]
+}
+
+fn longest_span(draft: &Draft) -> usize {
+    let transitions = draft.transitions.iter().flat_map(|t| [t.guard, t.action]);
+    let interactions = draft
+        .interactions
+        .iter()
+        .flat_map(|i| [i.guard, i.transfer]);
+    let spans = transitions
+        .chain(interactions)
+        .chain(draft.propositions.iter().copied());
+    spans.map(|span| span.length.into()).max().unwrap_or(0)
+}
+
+impl fmt::Display for Tally {
+    fn fmt(&self, f: &mut fmt::Formatter) -> fmt::Result {
+        write!(f, "{:8}", "")?;
+        for kind in KINDS {
+            write!(f, "{kind:>11}")?;
+        }
+        for (call, row) in CALLS.iter().zip(&self.answers) {
+            write!(f, "\n{call:8}")?;
+            for count in row {
+                write!(f, "{count:11}")?;
+            }
+        }
+        write!(f, "\n\nrefusals")?;
+        for (number, count) in self.refusals.iter().enumerate().skip(1) {
+            let gap = if number % 7 == 1 { "\n " } else { "" };
+            write!(f, "{gap} {number:2}:{count:<7}")?;
+        }
+        write!(f, "\n\n{} accepted plans; the largest sizes:", self.plans)?;
+        for (n, (name, size)) in SIZES.iter().zip(self.largest).enumerate() {
+            write!(f, "{}{name} {size}", if n % 5 == 0 { "\n  " } else { ", " })?;
+        }
+        writeln!(f, "\n  moves in one sequence {}", self.most_moves)?;
+        writeln!(f, "\n{} calls held against the book\n", self.book)
+    }
+}

@@ -1,0 +1,25 @@
+//! The plans of the folder plans/, one file each.
+
+pub mod chain;
+pub mod maximal;
+pub mod philosophers;
+pub mod robots;
+pub mod sample;
+pub mod tasks;
+
+use crate::plan::Plan;
+
+/// Every plan with the name of its file.
+pub fn all() -> Vec<(&'static str, Plan)> {
+    vec![
+        ("sample.plan", sample::plan()),
+        ("philosophers-3.plan", philosophers::plan(3)),
+        ("philosophers-8.plan", philosophers::plan(8)),
+        ("robots-2.plan", robots::plan(2)),
+        ("robots-5.plan", robots::plan(5)),
+        ("robots-100.plan", robots::plan(100)),
+        ("tasks.plan", tasks::plan()),
+        ("chain.plan", chain::plan()),
+        ("maximal.plan", maximal::plan()),
+    ]
+}

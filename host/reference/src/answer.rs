@@ -1,0 +1,61 @@
+//! What a call answers: a kind and a number.
+
+/// Why a call was refused; the lowest that applies is the answer.
+#[derive(Clone, Copy, Debug, PartialEq, Eq)]
+pub enum Refusal {
+    Head = 1,
+    Count = 2,
+    Layout = 3,
+    Component = 4,
+    Variable = 5,
+    Transition = 6,
+    Interaction = 7,
+    Rank = 8,
+    Oracle = 9,
+    Code = 10,
+    ImageLength = 11,
+    OtherPlan = 12,
+    State = 13,
+    FalseMark = 14,
+    BadStart = 15,
+    NoSuchMove = 16,
+    NotEnabled = 17,
+    Outranked = 18,
+    Marked = 19,
+}
+
+#[derive(Clone, Copy, Debug, PartialEq, Eq)]
+pub enum Answer {
+    Accepted,
+    Committed(usize),
+    Cancelled(usize),
+    Stalled,
+    Penned,
+    Refused(Refusal),
+}
+
+impl Answer {
+    pub fn kind(self) -> u32 {
+        match self {
+            Answer::Accepted => 0,
+            Answer::Committed(_) => 1,
+            Answer::Cancelled(_) => 2,
+            Answer::Stalled => 3,
+            Answer::Penned => 4,
+            Answer::Refused(_) => 5,
+        }
+    }
+
+    pub fn number(self) -> u32 {
+        match self {
+            Answer::Committed(interaction) | Answer::Cancelled(interaction) => interaction as u32,
+            Answer::Refused(refusal) => refusal as u32,
+            Answer::Accepted | Answer::Stalled | Answer::Penned => 0,
+        }
+    }
+}
+
+/// An answer that is a refusal where there is one.
+pub fn answer_of(result: Result<Answer, Refusal>) -> Answer {
+    result.unwrap_or_else(Answer::Refused)
+}

@@ -1,0 +1,136 @@
+//! The 312 bytes of a lane, with the rules of refusals 11 to 14.
+
+use crate::answer::Refusal;
+use crate::lane::{outranked, Lane};
+use crate::plan::{Plan, NO_PORT};
+
+pub const IMAGE_BYTES: usize = 312;
+const ORACLE: usize = 8;
+const MARKS: usize = 16;
+const LOCATIONS: usize = 24;
+const LAST_PORTS: usize = 40;
+const VALUES: usize = 56;
+
+/// A lane with its marks: bit i for interaction i.
+#[derive(Clone, Debug, PartialEq, Eq)]
+pub struct Stored {
+    pub lane: Lane,
+    pub marks: u64,
+}
+
+/// Bytes 0 to 15; the oracle state's byte is the lane's.
+fn head(plan: &Plan, oracle: u8) -> [u8; 16] {
+    let [c, v, i] = [
+        plan.components.len(),
+        plan.variables.len(),
+        plan.interactions.len(),
+    ]
+    .map(|count| count as u8);
+    let [n0, n1, n2, n3] = plan.number.to_le_bytes();
+    [
+        b'Y', b'A', b'R', b'D', 1, c, v, i, oracle, 0, 0, 0, n0, n1, n2, n3,
+    ]
+}
+
+pub fn write(plan: &Plan, stored: &Stored) -> [u8; IMAGE_BYTES] {
+    let lane = &stored.lane;
+    let mut bytes = [0; IMAGE_BYTES];
+    bytes[..16].copy_from_slice(&head(plan, lane.oracle as u8));
+    bytes[MARKS..LOCATIONS].copy_from_slice(&stored.marks.to_le_bytes());
+    bytes[LAST_PORTS..VALUES].fill(NO_PORT);
+    for (c, &location) in lane.locations.iter().enumerate() {
+        bytes[LOCATIONS + c] = location as u8;
+    }
+    for (c, &port) in lane.last_ports.iter().enumerate() {
+        bytes[LAST_PORTS + c] = port.map_or(NO_PORT, |port| port as u8);
+    }
+    for (n, value) in lane.values.iter().enumerate() {
+        bytes[VALUES + 4 * n..][..4].copy_from_slice(&value.to_le_bytes());
+    }
+    bytes
+}
+
+pub fn check_length(bytes: &[u8]) -> Result<&[u8; IMAGE_BYTES], Refusal> {
+    bytes.try_into().map_err(|_| Refusal::ImageLength)
+}
+
+/// The lane and marks that the bytes hold, or the lowest refusal that applies.
+pub fn read(plan: &Plan, bytes: &[u8]) -> Result<Stored, Refusal> {
+    let bytes = check_length(bytes)?;
+    if bytes[..16] != head(plan, bytes[ORACLE]) {
+        return Err(Refusal::OtherPlan);
+    }
+    let stored = Stored {
+        lane: read_lane(plan, bytes),
+        marks: read_marks(bytes),
+    };
+    if !state_lawful(plan, bytes, &stored.lane) {
+        Err(Refusal::State)
+    } else if !marks_true(plan, &stored) {
+        Err(Refusal::FalseMark)
+    } else {
+        Ok(stored)
+    }
+}
+
+fn read_marks(bytes: &[u8; IMAGE_BYTES]) -> u64 {
+    bytes[MARKS..LOCATIONS]
+        .iter()
+        .rev()
+        .fold(0, |marks, &byte| marks << 8 | u64::from(byte))
+}
+
+fn read_lane(plan: &Plan, bytes: &[u8; IMAGE_BYTES]) -> Lane {
+    let components = plan.components.len();
+    let port = |&port: &u8| (port != NO_PORT).then_some(port.into());
+    let value = |value: &[u8]| i32::from_le_bytes([value[0], value[1], value[2], value[3]]);
+    Lane {
+        locations: bytes[LOCATIONS..][..components]
+            .iter()
+            .map(|&location| location.into())
+            .collect(),
+        last_ports: bytes[LAST_PORTS..][..components].iter().map(port).collect(),
+        values: bytes[VALUES..][..4 * plan.variables.len()]
+            .chunks_exact(4)
+            .map(value)
+            .collect(),
+        oracle: bytes[ORACLE].into(),
+    }
+}
+
+/// The rule of refusal 13.
+fn state_lawful(plan: &Plan, bytes: &[u8; IMAGE_BYTES], lane: &Lane) -> bool {
+    let components = plan.components.len();
+    let oracle = plan
+        .oracle
+        .get(lane.oracle)
+        .is_some_and(|state| state.verdict != 0);
+    let used = plan.components.iter().enumerate().all(|(c, component)| {
+        lane.locations[c] < component.locations
+            && lane.last_ports[c].is_none_or(|port| port < component.ports)
+    });
+    let unused = bytes[LOCATIONS + components..LAST_PORTS]
+        .iter()
+        .all(|&location| location == 0)
+        && bytes[LAST_PORTS + components..VALUES]
+            .iter()
+            .all(|&port| port == NO_PORT)
+        && bytes[VALUES + 4 * plan.variables.len()..]
+            .iter()
+            .all(|&byte| byte == 0);
+    oracle && used && unused
+}
+
+/// Whether each mark is on an interaction that is enabled, not outranked, and ends bad.
+fn marks_true(plan: &Plan, stored: &Stored) -> bool {
+    let enabled = stored.lane.enabled(plan);
+    let ends_bad = |i| {
+        stored
+            .lane
+            .after(plan, i)
+            .is_some_and(|after| !after.good(plan))
+    };
+    let belongs =
+        |i| i < enabled.len() && enabled[i] && !outranked(plan, &enabled, i) && ends_bad(i);
+    (0..64).filter(|i| stored.marks >> i & 1 == 1).all(belongs)
+}

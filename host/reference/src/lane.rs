@@ -1,0 +1,109 @@
+//! A lane's state and one move on it.
+
+use crate::code;
+use crate::plan::{Plan, Transition};
+
+#[derive(Clone, Debug, PartialEq, Eq)]
+pub struct Lane {
+    pub locations: Vec<usize>,
+    /// For each component the port of its last transition; none yet at the start.
+    pub last_ports: Vec<Option<usize>>,
+    pub values: Vec<i32>,
+    pub oracle: usize,
+}
+
+impl Lane {
+    /// The starting state with its event read.
+    pub fn start(plan: &Plan) -> Lane {
+        let mut lane = Lane {
+            locations: plan
+                .components
+                .iter()
+                .map(|component| component.start)
+                .collect(),
+            last_ports: vec![None; plan.components.len()],
+            values: plan
+                .variables
+                .iter()
+                .map(|variable| variable.start)
+                .collect(),
+            oracle: plan.first,
+        };
+        lane.read_event(plan);
+        lane
+    }
+
+    /// Whether the oracle's verdict on the lane is not bad.
+    pub fn good(&self, plan: &Plan) -> bool {
+        plan.oracle[self.oracle].verdict != 0
+    }
+
+    /// For each interaction whether it is enabled.
+    pub fn enabled(&self, plan: &Plan) -> Vec<bool> {
+        (0..plan.interactions.len())
+            .map(|interaction| self.used(plan, interaction).is_some())
+            .collect()
+    }
+
+    /// The lane after an interaction; none where it is not enabled.
+    pub fn after(&self, plan: &Plan, interaction: usize) -> Option<Lane> {
+        let used = self.used(plan, interaction)?;
+        let mut lane = self.clone();
+        code::update(plan, plan.interactions[interaction].transfer, &mut lane);
+        for transition in &used {
+            code::update(plan, transition.action, &mut lane);
+        }
+        for transition in &used {
+            lane.locations[transition.component] = transition.destination;
+            lane.last_ports[transition.component] = Some(transition.port);
+        }
+        lane.read_event(plan);
+        Some(lane)
+    }
+
+    /// The transition of each component taking part; none where the interaction is not enabled.
+    fn used<'a>(&self, plan: &'a Plan, interaction: usize) -> Option<Vec<&'a Transition>> {
+        let interaction = &plan.interactions[interaction];
+        if !code::holds(plan, interaction.guard, self) {
+            return None;
+        }
+        let taking_part = interaction
+            .ports
+            .iter()
+            .enumerate()
+            .filter_map(|(c, port)| port.map(|port| (c, port)));
+        taking_part
+            .map(|(component, port)| self.transition(plan, component, port))
+            .collect()
+    }
+
+    /// The lowest-numbered transition that a component has here through a port.
+    fn transition<'a>(
+        &self,
+        plan: &'a Plan,
+        component: usize,
+        port: usize,
+    ) -> Option<&'a Transition> {
+        plan.transitions.iter().find(|t| {
+            t.component == component
+                && t.source == self.locations[component]
+                && t.port == port
+                && code::holds(plan, t.guard, self)
+        })
+    }
+
+    /// The oracle reads the letter of the state.
+    fn read_event(&mut self, plan: &Plan) {
+        let bit = |(k, &proposition)| usize::from(code::holds(plan, proposition, self)) << k;
+        let letter: usize = plan.propositions.iter().enumerate().map(bit).sum();
+        self.oracle = plan.oracle[self.oracle].next[letter];
+    }
+}
+
+/// Whether an enabled interaction lies above this one.
+pub fn outranked(plan: &Plan, enabled: &[bool], interaction: usize) -> bool {
+    enabled
+        .iter()
+        .enumerate()
+        .any(|(above, &enabled)| enabled && plan.below(interaction, above))
+}

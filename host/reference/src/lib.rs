@@ -1,0 +1,11 @@
+//! An independent implementation of the scope paper 01, written to be plainly right.
+#![forbid(unsafe_code)]
+
+pub mod answer;
+pub mod book;
+pub mod calls;
+pub mod code;
+pub mod draft;
+pub mod image;
+pub mod lane;
+pub mod plan;

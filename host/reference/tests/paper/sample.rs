@@ -1,0 +1,153 @@
+//! 01's sample lane, and short ways to call the reference.
+
+use reference::answer::{Answer, Refusal};
+use reference::calls;
+use reference::draft::{Component, Draft, Interaction, OracleState, Span, Transition, Variable};
+use reference::image::IMAGE_BYTES;
+
+pub type Image = [u8; IMAGE_BYTES];
+
+pub const EMPTY: Span = Span {
+    start: 0,
+    length: 0,
+};
+
+pub fn transition(source: u8, port: u8, destination: u8, action: Span) -> Transition {
+    Transition {
+        component: 0,
+        source,
+        port,
+        destination,
+        guard: EMPTY,
+        action,
+    }
+}
+
+/// An interaction of component 0 alone.
+pub fn interaction(port: u8) -> Interaction {
+    let mut ports = [255; 16];
+    ports[0] = port;
+    Interaction {
+        ports,
+        guard: EMPTY,
+        transfer: EMPTY,
+        rank: 0,
+    }
+}
+
+pub fn state(verdict: u8, next: &[u8]) -> OracleState {
+    let next = next.to_vec();
+    OracleState { verdict, next }
+}
+
+fn words(start: u16, length: u16) -> Span {
+    Span { start, length }
+}
+
+const CODE: [u16; 10] = [
+    0x0002, 0x1328, 0x3000, 0x0000, 0x3000, 0x4002, 0x2000, 0x0000, 0x6002, 0x6004,
+];
+
+const SCALE: Component = Component {
+    locations: 3,
+    start: 0,
+    ports: 3,
+    zero: 0,
+};
+const TARE: Variable = Variable {
+    owner: 0,
+    zeros: [0; 3],
+    value: 0,
+};
+
+pub fn sample() -> Draft {
+    Draft {
+        number: 7,
+        first: 0,
+        components: vec![SCALE],
+        variables: vec![TARE],
+        transitions: vec![
+            transition(0, 1, 2, EMPTY),
+            transition(0, 0, 1, words(0, 3)),
+            transition(1, 1, 2, EMPTY),
+            transition(2, 2, 0, words(3, 2)),
+        ],
+        interactions: vec![interaction(1), interaction(0), interaction(2)],
+        propositions: vec![words(5, 5)],
+        oracle: vec![state(2, &[0, 1]), state(0, &[1, 1])],
+        code: CODE.to_vec(),
+    }
+}
+
+/// The sample with words added behind its code.
+pub fn with_words(words: &[u16]) -> (Draft, Span) {
+    let mut draft = sample();
+    let span = Span {
+        start: draft.code.len() as u16,
+        length: words.len() as u16,
+    };
+    draft.code.extend(words);
+    (draft, span)
+}
+
+/// The sample with these words as the guard of transition 0.
+pub fn with_guard(words: &[u16]) -> Draft {
+    let (mut draft, span) = with_words(words);
+    draft.transitions[0].guard = span;
+    draft
+}
+
+pub fn check(draft: &Draft) -> Answer {
+    calls::check(&draft.bytes())
+}
+
+/// The image after an accepted start.
+pub fn started(draft: &Draft) -> Image {
+    let mut image = [0xa5; IMAGE_BYTES];
+    assert_eq!(calls::start(&draft.bytes(), &mut image), Answer::Accepted);
+    image
+}
+
+pub fn attempt(draft: &Draft, image: &mut Image, number: u32) -> Answer {
+    calls::attempt(&draft.bytes(), image, number)
+}
+
+pub fn settle(draft: &Draft, image: &mut Image) -> Answer {
+    calls::settle(&draft.bytes(), image)
+}
+
+pub fn offered(draft: &Draft, image: &Image) -> (Answer, u64) {
+    calls::offered(&draft.bytes(), image)
+}
+
+pub fn marks(image: &Image) -> u64 {
+    u64::from_le_bytes(image[16..24].try_into().unwrap())
+}
+
+pub fn value(image: &Image, n: usize) -> i32 {
+    i32::from_le_bytes(image[56 + 4 * n..][..4].try_into().unwrap())
+}
+
+/// The image and start calls on a refused plan change no byte.
+pub fn assert_plan_refused(plan: &[u8], refusal: Refusal) {
+    let mut image = started(&sample());
+    let before = image;
+    let refused = Answer::Refused(refusal);
+    assert_eq!(calls::check(plan), refused);
+    assert_eq!(calls::start(plan, &mut image), refused);
+    assert_eq!(calls::offered(plan, &image), (refused, 0));
+    assert_eq!(calls::attempt(plan, &mut image, 1), refused);
+    assert_eq!(calls::settle(plan, &mut image), refused);
+    assert_eq!(image, before);
+}
+
+/// The sample's calls on a refused image change no byte.
+pub fn assert_image_refused(image: &[u8], refusal: Refusal) {
+    let plan = sample().bytes();
+    let mut after = image.to_vec();
+    let refused = Answer::Refused(refusal);
+    assert_eq!(calls::offered(&plan, image), (refused, 0));
+    assert_eq!(calls::attempt(&plan, &mut after, 1), refused);
+    assert_eq!(calls::settle(&plan, &mut after), refused);
+    assert_eq!(after, image);
+}

@@ -1,0 +1,198 @@
+#include "commands.h"
+
+#include "files.h"
+#include "report.h"
+
+#include <ctype.h>
+#include <stdio.h>
+#include <string.h>
+
+static void do_offered(struct bridge *b, const char *unused)
+{
+    (void)unused;
+    uint32_t answer = yard_offered(b->plan, b->plan_len, b->image, sizeof b->image);
+    if (YARD_KIND(answer) == YARD_ACCEPTED)
+        report_moves("offered", yard_offered_bits(b->plan, b->plan_len, b->image, sizeof b->image));
+    else
+        report_answer(answer, "accepted");
+}
+
+/* A decimal number of 32 bits, with nothing before or after it. */
+static bool parse_number(const char *text, uint32_t *number)
+{
+    uint64_t sum = 0;
+    for (; isdigit((unsigned char)*text) && sum <= UINT32_MAX; text++)
+        sum = sum * 10 + (uint64_t)(*text - '0');
+    *number = (uint32_t)sum;
+    return *text == '\0' && sum <= UINT32_MAX;
+}
+
+static void do_try(struct bridge *b, const char *text)
+{
+    uint32_t move;
+    if (parse_number(text, &move))
+        report_answer(yard_try(b->plan, b->plan_len, b->image, sizeof b->image, move), "accepted");
+    else
+        puts("try needs a move number from 0 to 4294967295");
+}
+
+static void do_settle(struct bridge *b, const char *unused)
+{
+    (void)unused;
+    report_answer(yard_settle(b->plan, b->plan_len, b->image, sizeof b->image), "accepted");
+}
+
+static void do_start(struct bridge *b, const char *unused)
+{
+    (void)unused;
+    uint32_t answer = yard_start(b->plan, b->plan_len, b->image, sizeof b->image);
+    b->has_lane |= YARD_KIND(answer) == YARD_ACCEPTED;
+    report_answer(answer, "lane started");
+}
+
+/* The commands that look at the image need one. */
+static bool lane_there(const struct bridge *b)
+{
+    if (!b->has_lane)
+        puts("there is no lane yet");
+    return b->has_lane;
+}
+
+static void do_weights(struct bridge *b, const char *unused)
+{
+    (void)unused;
+    if (lane_there(b))
+        report_weights(b->image);
+}
+
+static void do_locations(struct bridge *b, const char *unused)
+{
+    (void)unused;
+    if (lane_there(b))
+        report_locations(b->image);
+}
+
+static void do_marks(struct bridge *b, const char *unused)
+{
+    (void)unused;
+    if (lane_there(b))
+        report_marks(b->image);
+}
+
+static void do_save(struct bridge *b, const char *path)
+{
+    if (!lane_there(b))
+        return;
+    if (file_write(path, b->image, sizeof b->image))
+        puts("lane saved");
+    else
+        report_file_fault("write", path);
+}
+
+/* A refused image is put aside: the lane in use stays. */
+static void do_load(struct bridge *b, const char *path)
+{
+    uint8_t image[YARD_IMAGE_BYTES + 1];
+    size_t len;
+    if (!file_read(path, image, sizeof image, &len)) {
+        report_file_fault("read", path);
+        return;
+    }
+    uint32_t answer = yard_offered(b->plan, b->plan_len, image, len);
+    if (YARD_KIND(answer) == YARD_ACCEPTED) {
+        memcpy(b->image, image, sizeof b->image);
+        b->has_lane = true;
+    }
+    report_answer(answer, "lane loaded");
+}
+
+/* A refused plan is in use all the same: moves must not go on under the plan that it was to replace. */
+static void do_plan(struct bridge *b, const char *path)
+{
+    uint8_t plan[sizeof b->plan];
+    size_t len;
+    if (!file_read(path, plan, sizeof plan, &len)) {
+        report_file_fault("read", path);
+        return;
+    }
+    memcpy(b->plan, plan, len);
+    b->plan_len = len;
+    report_answer(yard_check(b->plan, b->plan_len), "plan accepted");
+}
+
+static void do_quit(struct bridge *b, const char *unused)
+{
+    (void)unused;
+    b->done = true;
+}
+
+static const struct command {
+    const char *name;
+    const char *needs; /* what follows the name; NULL for nothing */
+    void (*run)(struct bridge *, const char *);
+} commands[] = {
+    {"offered", NULL, do_offered},
+    {"try", "a move number", do_try},
+    {"settle", NULL, do_settle},
+    {"weights", NULL, do_weights},
+    {"locations", NULL, do_locations},
+    {"marks", NULL, do_marks},
+    {"save", "a file name", do_save},
+    {"load", "a file name", do_load},
+    {"plan", "a file name", do_plan},
+    {"start", NULL, do_start},
+    {"quit", NULL, do_quit},
+};
+
+static const struct command *find(const char *name)
+{
+    for (size_t n = 0; n < sizeof commands / sizeof commands[0]; n++)
+        if (strcmp(name, commands[n].name) == 0)
+            return &commands[n];
+    return NULL;
+}
+
+static char *skip_blanks(char *text)
+{
+    while (isspace((unsigned char)*text))
+        text++;
+    return text;
+}
+
+/* Cuts the line behind its first word. Answers the rest, with no blanks around it. */
+static char *cut_rest(char *word)
+{
+    char *end = word + strlen(word);
+    while (end > word && isspace((unsigned char)end[-1]))
+        end--;
+    *end = '\0';
+    while (*word != '\0' && !isspace((unsigned char)*word))
+        word++;
+    if (*word == '\0')
+        return word;
+    *word = '\0';
+    return skip_blanks(word + 1);
+}
+
+void bridge_obey(struct bridge *b, char *line)
+{
+    char *name = skip_blanks(line);
+    if (*name == '\0' || *name == '#')
+        return;
+    char *rest = cut_rest(name);
+    const struct command *command = find(name);
+    if (command == NULL)
+        puts("unknown command: say offered, try, settle, weights, locations, marks, save, load, plan, start or quit");
+    else if (command->needs == NULL && *rest != '\0')
+        printf("%s stands alone on its line\n", command->name);
+    else if (command->needs != NULL && *rest == '\0')
+        printf("%s needs %s\n", command->name, command->needs);
+    else
+        command->run(b, rest);
+}
+
+void bridge_open(struct bridge *b, const char *plan_path)
+{
+    do_plan(b, plan_path);
+    do_start(b, "");
+}

@@ -1,0 +1,123 @@
+#include "report.h"
+
+#include "yard.h"
+
+#include <errno.h>
+#include <inttypes.h>
+#include <stdio.h>
+#include <string.h>
+
+/* Where an image keeps what is read here. */
+enum { COMPONENTS = 5, VARIABLES = 6, MARKS = 16, LOCATIONS = 24, LAST_PORTS = 40, VALUES = 56 };
+enum { NO_PORT = 255 };
+
+/* By refusal number; 0 stands for a number that yard.h does not list. */
+static const char *const refusals[] = {
+    "for a reason that this program does not know (ask the programmer)",
+    "the file is not a plan: it is too short or its head is damaged (ask the planner)",
+    "a count of the plan is out of range (ask the planner)",
+    "the sections or the length of the plan do not fit its counts (ask the planner)",
+    "a component of the plan is faulty (ask the planner)",
+    "a variable of the plan is faulty (ask the planner)",
+    "a transition of the plan is faulty (ask the planner)",
+    "an interaction of the plan is faulty (ask the planner)",
+    "the ranks of the plan are in conflict (ask the planner)",
+    "the oracle of the plan is faulty (ask the planner)",
+    "a guard, action, transfer or proposition of the plan is faulty (ask the planner)",
+    "the image is not 312 bytes long (ask the programmer)",
+    "the image is not a lane of this plan (ask the keeper of the image)",
+    "the image holds a bad or impossible state (ask the keeper of the image)",
+    "the image has a mark on a move that must have none (ask the keeper of the image)",
+    "the starting state of the plan is bad (ask the site)",
+    "the plan has no move of this number (choose another)",
+    "the move is not enabled now (choose another)",
+    "a move of higher rank is enabled (choose another)",
+    "the move was tried in this state and ends badly (choose another)",
+};
+
+static void report_refusal(uint32_t number)
+{
+    size_t known = sizeof refusals / sizeof refusals[0];
+    printf("refused %" PRIu32 ": %s\n", number, refusals[number < known ? number : 0]);
+}
+
+void report_answer(uint32_t answer, const char *accepted)
+{
+    uint32_t number = YARD_NUMBER(answer);
+    switch (YARD_KIND(answer)) {
+    case YARD_ACCEPTED:
+        puts(accepted);
+        break;
+    case YARD_COMMITTED:
+        printf("move %" PRIu32 " is done\n", number);
+        break;
+    case YARD_CANCELLED:
+        printf("move %" PRIu32 " is cancelled: it ends badly and is now marked\n", number);
+        break;
+    case YARD_STALLED:
+        puts("stalled: no move is enabled");
+        break;
+    case YARD_PENNED:
+        puts("penned: every move on hand ends badly and is now marked");
+        break;
+    case YARD_REFUSED:
+        report_refusal(number);
+        break;
+    default:
+        printf("answer %" PRIu32 " is unknown to this program (ask the programmer)\n", answer);
+    }
+}
+
+void report_moves(const char *what, uint64_t bits)
+{
+    printf("moves %s:", what);
+    for (unsigned move = 0; move < 64; move++)
+        if (bits >> move & 1)
+            printf(" %u", move);
+    printf("%s (bits %" PRIu64 ")\n", bits == 0 ? " none" : "", bits);
+}
+
+/* A number of `size` bytes, lowest byte first. */
+static uint64_t number_at(const uint8_t *bytes, unsigned size)
+{
+    uint64_t number = 0;
+    while (size-- > 0)
+        number = number << 8 | bytes[size];
+    return number;
+}
+
+static int64_t signed_at(const uint8_t *bytes)
+{
+    int64_t number = (int64_t)number_at(bytes, 4);
+    return number <= INT32_MAX ? number : number - ((int64_t)1 << 32);
+}
+
+void report_weights(const uint8_t *image)
+{
+    unsigned count = image[VARIABLES];
+    if (count == 0)
+        puts("the lane has no variables");
+    for (unsigned n = 0; n < count; n++)
+        printf("variable %u: %" PRId64 "\n", n, signed_at(image + VALUES + 4 * n));
+}
+
+void report_locations(const uint8_t *image)
+{
+    for (unsigned n = 0; n < image[COMPONENTS]; n++) {
+        printf("component %u: location %u, ", n, image[LOCATIONS + n]);
+        if (image[LAST_PORTS + n] == NO_PORT)
+            puts("no last port yet");
+        else
+            printf("last port %u\n", image[LAST_PORTS + n]);
+    }
+}
+
+void report_marks(const uint8_t *image)
+{
+    report_moves("marked", number_at(image + MARKS, 8));
+}
+
+void report_file_fault(const char *verb, const char *path)
+{
+    printf("cannot %s %s: %s\n", verb, path, strerror(errno));
+}

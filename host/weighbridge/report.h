@@ -1,0 +1,25 @@
+/* What the clerk reads: answers, refusals and the contents of an image, on standard output. */
+#ifndef REPORT_H
+#define REPORT_H
+
+#include <stdint.h>
+
+/* An answer of the engine in words; `accepted` is what to say for an accepted call. */
+void report_answer(uint32_t answer, const char *accepted);
+
+/* The moves whose bits are set. */
+void report_moves(const char *what, uint64_t bits);
+
+/* The variables of an image with their values. */
+void report_weights(const uint8_t *image);
+
+/* The components of an image with their locations and last ports. */
+void report_locations(const uint8_t *image);
+
+/* The marked moves of an image. */
+void report_marks(const uint8_t *image);
+
+/* A file that could not be read or written; the reason is in errno. */
+void report_file_fault(const char *verb, const char *path);
+
+#endif
