@@ -1,10 +1,8 @@
-pub mod Depths
 pub mod MatchRest
 pub mod OperatorsHeld
 pub mod ReadBack
 pub mod Sections
 pub mod StackHeld
 pub mod TakenSpans
-pub mod Tests
 pub mod Turns
 pub mod WordsHeld

@@ -51,6 +51,10 @@ pub empty-read : (p : Plan) (s : State) (at size : ℕ) → size ≡ u16 p (at +
 unfolding guardHolds
 empty-read p s at size f h = rw (eq-eqb (u16 p (at + 2)) 0 (sym f ∙ h))
 
+pub acted-none : (p : Plan) (s : State) (at size : ℕ) → size ≡ u16 p (at + 2) → size ≡ 0 → s .values ≡ acted p s (spanAt p at) .values
+unfolding acted ran
+acted-none p s at size f h = ap (λ (x : ℕ). ran p s (u16 p at) x .values) (sym h ∙ f)
+
 module _ (p : Plan) (s : State) (at start size : ℕ) (e : start ≡ u16 p at) (f : size ≡ u16 p (at + 2)) where
   ran-read : ran p s start size ≡ ran p s (u16 p at) (u16 p (at + 2))
   ran-read = ap₂ (λ (x y : ℕ). ran p s x y) e f

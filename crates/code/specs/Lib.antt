@@ -1,4 +1,3 @@
-pub mod Depth
 pub mod Held
 pub mod Laid
 pub mod Taken

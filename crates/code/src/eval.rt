@@ -138,7 +138,7 @@ fn operated(n: u16, left: i32, right: i32) -> i32
     }
 }
 
-// The stack after operator n. `not`, 6, replaces the top; what lies below it may be no value then.
+// The stack after operator n. `not`, 6, replaces the top; what lies below it may be no value then. n & 7 is n: the match then has no case left.
 fn operators(stack: &[i32; 8], m: Top, n: u16) -> Top
     requires { ⌜ (n < 8) × (0 < m .depth) × (operatorPops n ≤ m .depth) × (m .depth ≤ 8) ⌝ }
     ensures { λ r. ⌜ held (now (stack .entry)) (r .depth) (r .value) ≡ combined n (held (now (stack .entry)) (m .depth) (m .value)) ⌝ }
@@ -147,7 +147,7 @@ fn operators(stack: &[i32; 8], m: Top, n: u16) -> Top
     let below = d - 1;
     let left = stack[below];
     let right = m.value;
-    let value = operated(n, left, right);
+    let value = operated(n & 7, left, right);
     if n == 6 {
         return Top {
             depth: d,
@@ -254,7 +254,8 @@ fn look(
     peek(&stack, m)
 }
 
-// Whether the guard or the proposition whose span is written at a place holds.
+// Whether the guard or the proposition whose span is written at a place holds. Two calls of `look` keep it out of line, so that the test
+// for an empty guard goes into the callers.
 pub fn guard_holds(
     plan: &[u8],
     locations: &[u8; 16],
@@ -272,21 +273,20 @@ pub fn guard_holds(
         return true;
     }
     let start = bytes::field(plan, at);
+    if size == 1 {
+        return tests::holds(look(plan, locations, ports, values, start, 1));
+    }
     tests::holds(look(plan, locations, ports, values, start, size))
 }
 
-// Runs the action or the transfer whose span is written at a place. It reads and writes the values alone: the promise is for every state with them.
-pub fn act(plan: &[u8], values: &mut [i32; 64], at: usize)
+// Runs an action or a transfer. It reads and writes the values alone: the promise is for every state with them.
+fn update(plan: &[u8], values: &mut [i32; 64], start: usize, size: usize)
     requires { ⌜ planRefusal (now plan) ≡ 0 ⌝ }
-    requires { ⌜ (at + 4 ≤ length (now plan)) × Taken (now plan) 0 (spanAt (now plan) at) ⌝ }
-    requires { ⌜ length (now values) ≡ 64 ⌝ }
-    ensures { λ r. ⌜ ((s : State) → s .values ≡ now (values .entry)
-        → now (values .exit) ≡ acted (now (plan .entry)) s (spanAt (now (plan .entry)) at) .values)
+    requires { ⌜ Taken (now plan) 0 (record { start = start; size = size }) × (length (now values) ≡ 64) ⌝ }
+    ensures { λ r. ⌜ ((s : State) → s .values ≡ now (values .entry) → now (values .exit) ≡ ran (now (plan .entry)) s start size .values)
         × (length (now (values .exit)) ≡ 64) ⌝ }
 {
     let base = bytes::field(plan, 40);
-    let start = bytes::field(plan, at);
-    let size = bytes::field(plan, at + 2);
     let mut stack = [0; 8];
     let mut m = Top { depth: 0, value: 0 };
     let mut i = 0;
@@ -295,4 +295,26 @@ pub fn act(plan: &[u8], values: &mut [i32; 64], at: usize)
         m = step(values, &mut stack, m, word::kind(w), word::operand(w));
         i += 1;
     }
+}
+
+// The same for the span that is written at a place. Two calls of `update` keep it out of line, so that the test for an empty span goes
+// into the callers; no action has one word.
+pub fn act(plan: &[u8], values: &mut [i32; 64], at: usize)
+    requires { ⌜ planRefusal (now plan) ≡ 0 ⌝ }
+    requires { ⌜ (at + 4 ≤ length (now plan)) × Taken (now plan) 0 (spanAt (now plan) at) ⌝ }
+    requires { ⌜ length (now values) ≡ 64 ⌝ }
+    ensures { λ r. ⌜ ((s : State) → s .values ≡ now (values .entry)
+        → now (values .exit) ≡ acted (now (plan .entry)) s (spanAt (now (plan .entry)) at) .values)
+        × (length (now (values .exit)) ≡ 64) ⌝ }
+{
+    let size = bytes::field(plan, at + 2);
+    if size == 0 {
+        return;
+    }
+    let start = bytes::field(plan, at);
+    if size == 2 {
+        update(plan, values, start, 2);
+        return;
+    }
+    update(plan, values, start, size);
 }

@@ -1,4 +1,3 @@
 // Code words: the word split, the checker of a span and the evaluator.
 pub mod eval;
-pub mod span;
 pub mod word;

@@ -1,7 +1,6 @@
 // A code word split into its kind and its operand.
 ghost use mathlib.Core.Path.{_≡_};
-ghost use Prim.Native.Nat.{_+_, _*_, _/_, _%_, _≤_, _<_};
-ghost use lib.ListN.{length};
+ghost use Prim.Native.Nat.{_+_, _*_, _/_, _%_, _<_};
 ghost use Rattle.semantics.specs.Plan.{codeWords, word};
 ghost use Rattle.code.specs.Laid.{Laid};
 use words::bytes;

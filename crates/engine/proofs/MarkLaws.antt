@@ -2,7 +2,6 @@
 use mathlib.Core.Path.{_≡_, refl, sym, ap, _∙_}
 use Prim.Native.Nat.{ℕ, _<_}
 use mathlib.Core.Bool.{Bool, true, false, not, _&&_}
-use mathlib.Core.List.{[], _∷_}
 use lib.Dec.{ltb}
 use Rattle.semantics.specs.Bytes.{allOf, implies, every, bit, mask}
 use Rattle.semantics.specs.Plan.{Plan, interactions}
@@ -11,6 +10,7 @@ use Rattle.semantics.specs.Move.{Configuration, enabled, eligible, after, good}
 use Rattle.semantics.specs.Image.{markOk, marksOk}
 use Rattle.semantics.proofs.Basics.{bool-cases, absurd-bool, implies-yes, implies-at, each, ltb-true, ltb-false, lt-ltb, every-at, every-all}
 use Rattle.semantics.proofs.Masks.{bit-mask, bit-mask-over}
+use Rattle.words.proofs.MaskWalk.{walk-start, walk-done}
 
 -- a bit of a mask of n tests is below n, and its test holds
 pub mask-holds : (n : ℕ) (f : ℕ → Bool) (j : ℕ) → bit (mask n f) j ≡ true → (j < n) × (f j ≡ true)
@@ -30,6 +30,11 @@ and-true false = refl
 pub mark-is : (p : Plan) (c : Configuration) (i : ℕ) → i < interactions p → eligible p (c .state) i ≡ true → markOk p c i ≡ not (good p (after p c i))
 unfolding markOk allOf
 mark-is p c i h e = rw (lt-ltb i (interactions p) h, e) (and-true (not (good p (after p c i))))
+
+-- where there are no marks, all are kept
+pub no-marks : (p : Plan) (c : Configuration) (m : ℕ) → m ≡ 0 → marksOk p c m ≡ true
+unfolding marksOk
+no-marks p c m e = walk-done 64 m (markOk p c) m (walk-start m (markOk p c)) e
 
 -- the marks m against e, the mask of the eligible interactions
 module _ (p : Plan) (c : Configuration) (m e : ℕ) (q : e ≡ mask (interactions p) (eligible p (c .state))) where

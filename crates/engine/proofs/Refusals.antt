@@ -1,9 +1,9 @@
--- The first broken rule, when the plan's own rules come first: what examine and start answer.
+-- The first broken rule, when the plan's own rules come first: what opened, examine and start answer.
 use mathlib.Core.Path.{_≡_, refl, sym, ap, _∙_}
 use Prim.Native.Nat.{ℕ, zero, suc, _<_}
 use native.Mathlib.Omega.{arith}
 use mathlib.Core.Bool.{Bool, true, false}
-use mathlib.Core.List.{List, [], _∷_, _++_}
+use mathlib.Core.List.{List, [], _∷_, _++_, append-assoc}
 use lib.ListN.{length}
 use lib.Dec.{eqb}
 use Rattle.semantics.specs.Plan.{Plan, oracleStates, firstOracle}
@@ -12,9 +12,10 @@ use Rattle.semantics.specs.Rules.{planRules, planRefusal}
 use Rattle.semantics.specs.Move.{Configuration, good, initial}
 use Rattle.semantics.specs.Image.{Image, image, marksOf, configurationOf, headMatches, configurationOk, marksOk, lengthRule, imageRules}
 use Rattle.semantics.specs.Calls.{accepted, refused, Outcome, outcome, unlessRefused, startRules, start}
-use Rattle.semantics.proofs.Basics.{each, ltb-true}
-use Rattle.semantics.proofs.Refusing.{none-refused, refusal-after}
+use Rattle.semantics.proofs.Basics.{each, ltb-true, eqb-true}
+use Rattle.semantics.proofs.Refusing.{numbered, none-refused, refusal-after, refusal-before}
 use Rattle.semantics.proofs.AcceptedPlan.{plan-numbered, accepted-plan, counts-of}
+use Rattle.engine.specs.Known.{headRules, bodyRules}
 
 unless-both : (b : Bool) (m x y n : ℕ) → unless b m x ≡ n → (x ≡ n → y ≡ n) → unless b m y ≡ n
 unfolding unless
@@ -44,32 +45,64 @@ pub oracle-in : (p : Plan) (c : Configuration) → configurationOk p c ≡ true 
 unfolding configurationOk
 oracle-in p c e = ltb-true _ _ (each _ e .0)
 
--- ---- 11 to 14, of an accepted plan
+-- ---- 11 and 12, of an accepted plan
 
 module _ (p : Plan) (b : Image) (h : planRefusal p ≡ 0) where
-  pub refused-11 : eqb (length b) 312 ≡ false → refusal (planRules p ++ imageRules p b) ≡ 11
-  unfolding imageRules lengthRule refusal unless
-  refused-11 e = plan-kept p (imageRules p b) h ∙ rw e refl
+  pub head-11 : eqb (length b) 312 ≡ false → refusal (planRules p ++ headRules p b) ≡ 11
+  unfolding lengthRule refusal unless
+  head-11 e = plan-kept p (headRules p b) h ∙ rw e refl
 
-  pub refused-12 : eqb (length b) 312 ≡ true → headMatches p b ≡ false → refusal (planRules p ++ imageRules p b) ≡ 12
-  unfolding imageRules lengthRule refusal unless
-  refused-12 e f = plan-kept p (imageRules p b) h ∙ rw (e, f) refl
+  pub head-12 : eqb (length b) 312 ≡ true → headMatches p b ≡ false → refusal (planRules p ++ headRules p b) ≡ 12
+  unfolding lengthRule refusal unless
+  head-12 e f = plan-kept p (headRules p b) h ∙ rw (e, f) refl
 
-  pub refused-13 : eqb (length b) 312 ≡ true → headMatches p b ≡ true → configurationOk p (configurationOf b) ≡ false
-      → refusal (planRules p ++ imageRules p b) ≡ 13
-  unfolding imageRules lengthRule refusal unless
-  refused-13 e f g = plan-kept p (imageRules p b) h ∙ rw (e, f, g) refl
+  pub head-kept : eqb (length b) 312 ≡ true → headMatches p b ≡ true → refusal (planRules p ++ headRules p b) ≡ 0
+  unfolding lengthRule refusal unless
+  head-kept e f = plan-kept p (headRules p b) h ∙ rw (e, f) refl
 
-  -- the last of them decides
-  pub refused-14 : eqb (length b) 312 ≡ true → headMatches p b ≡ true → configurationOk p (configurationOf b) ≡ true
-      → marksOk p (configurationOf b) (marksOf b) ≡ false → refusal (planRules p ++ imageRules p b) ≡ 14
-  unfolding imageRules lengthRule refusal unless
-  refused-14 e f g k = plan-kept p (imageRules p b) h ∙ rw (e, f, g, k) refl
+-- ---- 13 and 14
 
-  pub none-of-14 : eqb (length b) 312 ≡ true → headMatches p b ≡ true → configurationOk p (configurationOf b) ≡ true
-      → marksOk p (configurationOf b) (marksOf b) ≡ true → refusal (planRules p ++ imageRules p b) ≡ 0
-  unfolding imageRules lengthRule refusal unless
-  none-of-14 e f g k = plan-kept p (imageRules p b) h ∙ rw (e, f, g, k) refl
+module _ (p : Plan) (c : Configuration) (m : ℕ) where
+  pub body-13 : configurationOk p c ≡ false → refusal (bodyRules p c m) ≡ 13
+  unfolding refusal unless
+  body-13 e = rw e refl
+
+  pub body-14 : configurationOk p c ≡ true → marksOk p c m ≡ false → refusal (bodyRules p c m) ≡ 14
+  unfolding refusal unless
+  body-14 e f = rw (e, f) refl
+
+  pub body-kept : configurationOk p c ≡ true → marksOk p c m ≡ true → refusal (bodyRules p c m) ≡ 0
+  unfolding refusal unless
+  body-kept e f = rw (e, f) refl
+
+-- ---- 1 to 14, from the refusal n of 1 to 12
+
+module _ (p : Plan) (b : Image) where
+  all-rules : planRules p ++ headRules p b ++ bodyRules p (configurationOf b) (marksOf b) ≡ planRules p ++ imageRules p b
+  unfolding imageRules
+  all-rules = append-assoc (planRules p) (headRules p b) (bodyRules p (configurationOf b) (marksOf b))
+
+  first-numbered : numbered (planRules p ++ headRules p b) ≡ true
+  unfolding numbered planRules lengthRule
+  first-numbered = refl
+
+  module _ (n : ℕ) (e : n ≡ refusal (planRules p ++ headRules p b)) where
+    pub opened-refused : (n ≡ 0 → ⊥) → refusal (planRules p ++ imageRules p b) ≡ n
+    opened-refused z = ap refusal (sym all-rules) ∙ refused-first (planRules p ++ headRules p b) (bodyRules p (configurationOf b) (marksOf b)) n (sym e) z
+
+    module _ (z : n ≡ 0) where
+      pub opened-plan : planRefusal p ≡ 0
+      unfolding planRefusal
+      opened-plan = refusal-before (planRules p) (headRules p b) (sym e ∙ z) (plan-numbered p)
+
+      pub opened-long : length b ≡ 312
+      unfolding numbered lengthRule
+      opened-long = eqb-true _ _ (none-refused (headRules p b) refl (sym (plan-kept p (headRules p b) opened-plan) ∙ sym e ∙ z) .0)
+
+      pub opened-rest : refusal (planRules p ++ imageRules p b) ≡ refusal (bodyRules p (configurationOf b) (marksOf b))
+      opened-rest =
+          ap refusal (sym all-rules)
+          ∙ refusal-after (planRules p ++ headRules p b) (bodyRules p (configurationOf b) (marksOf b)) (none-refused (planRules p ++ headRules p b) first-numbered (sym e ∙ z))
 
 -- ---- start
 

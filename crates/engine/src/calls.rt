@@ -1,39 +1,37 @@
 // The calls on a lane's image: start, offered, try and settle. Each reads the plan and the image anew and keeps nothing.
 use crate::answer::Answer;
 use crate::answer::Offer;
+use choices::choice;
+use choices::masks;
 use lane::image;
 use lane::run;
 use lane::run::Run;
-use moves::choice;
 use moves::judge;
-use moves::masks;
 use words::bits;
 use words::bytes;
 ghost use mathlib.Core.Path.{_≡_};
-ghost use mathlib.Core.Bool.{not, _&&_};
+ghost use mathlib.Core.Bool.{not};
 ghost use mathlib.Core.List.{_++_};
-ghost use Prim.Native.Nat.{ℕ, _<_};
+ghost use Prim.Native.Nat.{_<_};
+ghost use lib.ListN.{replicate};
 ghost use Rattle.semantics.specs.Bytes.{mask};
-ghost use Rattle.semantics.specs.Plan.{interactions, oracleStates};
+ghost use Rattle.semantics.specs.Plan.{transitions, interactions, oracleStates};
 ghost use Rattle.semantics.specs.Refusal.{refusal};
 ghost use Rattle.semantics.specs.Rules.{planRules, planRefusal};
 ghost use Rattle.semantics.specs.Move.{eligible};
-ghost use Rattle.semantics.specs.Image.{imageRules, marksOk};
+ghost use Rattle.semantics.specs.Image.{marksOk};
 ghost use Rattle.semantics.specs.Calls.{start, called, Call.offered, Call.try, Call.settle};
 ghost use Rattle.engine.specs.Answers.{answerOf, offerOf};
-ghost use Rattle.moves.specs.Choices.{choiceTable};
-ghost use Rattle.engine.specs.Known.{Known};
-ghost use Rattle.lane.specs.Runs.{stateOf, configurationIn};
+ghost use Rattle.choices.specs.Choices.{choiceTable};
+ghost use Rattle.engine.specs.Known.{headRules, bodyRules, Known};
+ghost use Rattle.lane.specs.Runs.{site, stateOf, configurationIn};
 
 // The length of an image.
 const IMAGE_BYTES: usize = 312;
 
-// A lane that was read: the first refusal of 1 to 14, and where that is 0 the run record, the transitions chosen, and the enabled and eligible
-// interactions.
+// What the reading of a lane gives: the first refusal of 13 and 14, and where that is 0 the enabled and eligible interactions.
 pub struct Examined {
     pub refusal: u8,
-    pub run: Run,
-    pub picks: [u16; 256],
     pub enabled: u64,
     pub eligible: u64,
 }
@@ -60,54 +58,102 @@ fn marks_ok(plan: &[u8], run: Run, picks: &[u16; 256], eligible: u64) -> bool
     true
 }
 
+// The same of a lane whose run record is lent in parts; where there are no marks nothing is copied.
+fn marks_kept<'a>(
+    plan: &[u8],
+    locations: &'a [u8; 16],
+    ports: &'a [u8; 16],
+    values: &'a [i32; 64],
+    oracle: u8,
+    marks: u64,
+    picks: &[u16; 256],
+    eligible: u64,
+) -> bool
+    requires { ⌜ planRefusal (now plan) ≡ 0 ⌝ }
+    requires { ⌜ now picks ≡ choiceTable (now plan) (site (now locations) (now ports) (now values)) ⌝ }
+    requires { ⌜ (oracle < oracleStates (now plan)) × (eligible ≡ mask (interactions (now plan)) (Rattle.semantics.specs.Move.eligible (now plan) (site (now locations) (now ports) (now values)))) ⌝ }
+    ensures { λ r. ⌜ r ≡ marksOk (now (plan .entry)) (record { state = site (now (locations .entry)) (now (ports .entry)) (now (values .entry)); oracle = oracle }) marks ⌝ }
+{
+    if marks == 0 {
+        return true;
+    }
+    let places = *locations;
+    let last = *ports;
+    let numbers = *values;
+    let run = Run {
+        locations: places,
+        last_ports: last,
+        values: numbers,
+        oracle: oracle,
+        marks: marks,
+    };
+    marks_ok(plan, run, picks, eligible)
+}
+
 // A lane that is refused.
 fn turned_away(refusal: u8) -> Examined
     ensures { λ r. ⌜ r .refusal ≡ refusal ⌝ }
 {
     Examined {
         refusal: refusal,
-        run: Run {
-            locations: [0; 16],
-            last_ports: [0; 16],
-            values: [0; 64],
-            oracle: 0,
-            marks: 0,
-        },
-        picks: [0; 256],
         enabled: 0,
         eligible: 0,
     }
 }
 
-// Reads plan and image, 1 to 14 in order.
-pub fn examine(plan: &[u8], image: &[u8]) -> Examined
-    ensures { λ r. ⌜ r .refusal ≡ refusal (planRules (now (plan .entry)) ++ imageRules (now (plan .entry)) (now (image .entry))) ⌝ }
-    ensures { λ r. ⌜ (r .refusal ≡ 0 → Known (now (plan .entry)) (now (image .entry)) r) ⌝ }
+// Reads plan and image as far as the image's head: the first refusal of 1 to 12, 0 where there is none.
+fn opened(plan: &[u8], image: &[u8]) -> u8
+    ensures { λ r. ⌜ r ≡ refusal (planRules (now (plan .entry)) ++ headRules (now (plan .entry)) (now (image .entry))) ⌝ }
 {
     let refusal = plan::check(plan);
     if refusal != 0 {
-        return turned_away(refusal);
+        return refusal;
     }
     if image.len() != IMAGE_BYTES {
-        return turned_away(11);
+        return 11;
     }
     if !image::head_matches(plan, image) {
-        return turned_away(12);
+        return 12;
     }
-    let run = run::load(image);
-    if !image::configuration_ok(plan, run) {
+    0
+}
+
+// Reads the run record of an image that was opened, 13 and 14, and fills the table of choices, in which there are none yet.
+fn examine<'a>(
+    plan: &[u8],
+    locations: &'a [u8; 16],
+    ports: &'a [u8; 16],
+    values: &'a [i32; 64],
+    oracle: u8,
+    marks: u64,
+    picks: &mut [u16; 256],
+) -> Examined
+    requires { ⌜ planRefusal (now plan) ≡ 0 ⌝ }
+    requires { ⌜ now picks ≡ replicate 256 (transitions (now plan)) ⌝ }
+    ensures { λ r. ⌜ r .refusal ≡ refusal (bodyRules (now (plan .entry)) (record { state = site (now (locations .entry)) (now (ports .entry)) (now (values .entry)); oracle = oracle }) marks) ⌝ }
+    ensures { λ r. ⌜ (r .refusal ≡ 0 → now (picks .exit) ≡ choiceTable (now (plan .entry)) (site (now (locations .entry)) (now (ports .entry)) (now (values .entry)))) ⌝ }
+    ensures { λ r. ⌜ (r .refusal ≡ 0 → Known (now (plan .entry)) (site (now (locations .entry)) (now (ports .entry)) (now (values .entry))) r) ⌝ }
+{
+    if !image::configuration_ok(plan, locations, ports, values, oracle) {
         return turned_away(13);
     }
-    let picks = choice::choices(plan, run);
-    let enabled = masks::enabled_mask(plan, run, &picks);
+    choice::choices(plan, locations, ports, values, picks);
+    let enabled = masks::enabled_mask(plan, locations, ports, values, picks);
     let eligible = masks::eligible_mask(plan, enabled);
-    if !marks_ok(plan, run, &picks, eligible) {
+    if !marks_kept(
+        plan,
+        locations,
+        ports,
+        values,
+        oracle,
+        marks,
+        picks,
+        eligible,
+    ) {
         return turned_away(14);
     }
     Examined {
         refusal: 0,
-        run: run,
-        picks: picks,
         enabled: enabled,
         eligible: eligible,
     }
@@ -128,7 +174,7 @@ pub fn start(plan: &[u8], image: &mut [u8]) -> Answer
     if !image::good(plan, run.oracle) {
         return Answer::Refused(15);
     }
-    run::store(plan, image, run);
+    run::store(plan, image, run, 0);
     Answer::Accepted
 }
 
@@ -136,7 +182,24 @@ pub fn start(plan: &[u8], image: &mut [u8]) -> Answer
 pub fn offered(plan: &[u8], image: &[u8]) -> Offer
     ensures { λ r. ⌜ offerOf r ≡ called (now (plan .entry)) (now (image .entry)) offered .answer ⌝ }
 {
-    let lane = examine(plan, image);
+    let opening = opened(plan, image);
+    if opening != 0 {
+        return Offer {
+            answer: Answer::Refused(opening),
+            bits: 0,
+        };
+    }
+    let run = run::load(image);
+    let mut picks = [bytes::u16_at(plan, 14); 256];
+    let lane = examine(
+        plan,
+        &run.locations,
+        &run.last_ports,
+        &run.values,
+        run.oracle,
+        run.marks,
+        &mut picks,
+    );
     let refusal = lane.refusal;
     if refusal != 0 {
         return Offer {
@@ -144,7 +207,6 @@ pub fn offered(plan: &[u8], image: &[u8]) -> Offer
             bits: 0,
         };
     }
-    let run = lane.run;
     Offer {
         answer: Answer::Accepted,
         bits: lane.eligible & !run.marks,
@@ -155,7 +217,21 @@ pub fn offered(plan: &[u8], image: &[u8]) -> Offer
 pub fn try_move(plan: &[u8], image: &mut [u8], i: u32) -> Answer
     ensures { λ r. ⌜ (answerOf r ≡ called (now (plan .entry)) (now (image .entry)) (try i) .answer) × (now (image .exit) ≡ called (now (plan .entry)) (now (image .entry)) (try i) .image) ⌝ }
 {
-    let lane = examine(plan, image);
+    let opening = opened(plan, image);
+    if opening != 0 {
+        return Answer::Refused(opening);
+    }
+    let run = run::load(image);
+    let mut picks = [bytes::u16_at(plan, 14); 256];
+    let lane = examine(
+        plan,
+        &run.locations,
+        &run.last_ports,
+        &run.values,
+        run.oracle,
+        run.marks,
+        &mut picks,
+    );
     let refusal = lane.refusal;
     if refusal != 0 {
         return Answer::Refused(refusal);
@@ -170,15 +246,12 @@ pub fn try_move(plan: &[u8], image: &mut [u8], i: u32) -> Answer
     if !bits::bit(lane.eligible, n) {
         return Answer::Refused(18);
     }
-    let run = lane.run;
     if bits::bit(run.marks, n) {
         return Answer::Refused(19);
     }
-    let picks = lane.picks;
-    let mut next = judge::advance(plan, run, &picks, n);
+    let next = judge::advance(plan, run, &picks, n);
     if image::good(plan, next.oracle) {
-        next.marks = 0;
-        run::store(plan, image, next);
+        run::store(plan, image, next, 0);
         return Answer::Committed(n as u8);
     }
     run::put_marks(image, bits::with_bit(run.marks, n));
@@ -189,19 +262,35 @@ pub fn try_move(plan: &[u8], image: &mut [u8], i: u32) -> Answer
 pub fn settle(plan: &[u8], image: &mut [u8]) -> Answer
     ensures { λ r. ⌜ (answerOf r ≡ called (now (plan .entry)) (now (image .entry)) settle .answer) × (now (image .exit) ≡ called (now (plan .entry)) (now (image .entry)) settle .image) ⌝ }
 {
-    let lane = examine(plan, image);
+    let opening = opened(plan, image);
+    if opening != 0 {
+        return Answer::Refused(opening);
+    }
+    let run = run::load(image);
+    let mut picks = [bytes::u16_at(plan, 14); 256];
+    let lane = examine(
+        plan,
+        &run.locations,
+        &run.last_ports,
+        &run.values,
+        run.oracle,
+        run.marks,
+        &mut picks,
+    );
     let refusal = lane.refusal;
     if refusal != 0 {
         return Answer::Refused(refusal);
     }
-    let run = lane.run;
-    let picks = lane.picks;
-    let tried = judge::safe_move(plan, run, &picks, lane.eligible & !run.marks);
-    if tried.found < bytes::field(plan, 16) {
-        let mut moved = tried.run;
-        moved.marks = 0;
-        run::store(plan, image, moved);
-        return Answer::Committed(tried.found as u8);
+    let mut left = lane.eligible & !run.marks;
+    while left != 0 {
+        let rest = bits::without_lowest(left);
+        let n = bits::lowest_bit(left);
+        let moved = judge::advance(plan, run, &picks, n);
+        if image::good(plan, moved.oracle) {
+            run::store(plan, image, moved, 0);
+            return Answer::Committed(n as u8);
+        }
+        left = rest;
     }
     if lane.enabled == 0 {
         return Answer::Stalled;

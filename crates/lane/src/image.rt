@@ -1,5 +1,4 @@
 // The keeper's tests of an image: its head, and the configuration that it holds.
-use crate::run::Run;
 use arith::tests::equal;
 use words::bytes::field;
 use words::bytes::tagged;
@@ -14,7 +13,7 @@ ghost use Rattle.semantics.specs.Bytes.{byte, allOf, every};
 ghost use Rattle.semantics.specs.Plan.{letters, oracleStates, oracleAt, verdict};
 ghost use Rattle.semantics.specs.Rules.{planRefusal};
 ghost use Rattle.semantics.specs.Image.{headMatches, locationOk, lastPortOk, valueOk, configurationOk};
-ghost use Rattle.lane.specs.Runs.{placed, valued, configurationIn};
+ghost use Rattle.lane.specs.Runs.{site, placed, valued};
 
 // Whether an image's counts are the plan's bytes 10, 12 and 16: each count is below 256.
 fn counts_match(plan: &[u8], image: &[u8]) -> bool
@@ -131,15 +130,18 @@ fn values_ok(plan: &[u8], values: &[i32; 64]) -> bool
 }
 
 // Whether a configuration keeps 13: in range, unused entries as they begin, and good.
-pub fn configuration_ok(plan: &[u8], run: Run) -> bool
+pub fn configuration_ok<'a>(
+    plan: &[u8],
+    locations: &'a [u8; 16],
+    ports: &'a [u8; 16],
+    values: &'a [i32; 64],
+    oracle: u8,
+) -> bool
     requires { ⌜ planRefusal (now plan) ≡ 0 ⌝ }
-    ensures { λ r. ⌜ r ≡ configurationOk (now (plan .entry)) (configurationIn run) ⌝ }
+    ensures { λ r. ⌜ r ≡ configurationOk (now (plan .entry)) (record { state = site (now (locations .entry)) (now (ports .entry)) (now (values .entry)); oracle = oracle }) ⌝ }
 {
-    let oracle = run.oracle;
     if wide(oracle) < field(plan, 20) {
-        good(plan, oracle)
-            & components_ok(plan, &run.locations, &run.last_ports)
-            & values_ok(plan, &run.values)
+        good(plan, oracle) & components_ok(plan, locations, ports) & values_ok(plan, values)
     } else {
         false
     }

@@ -100,14 +100,14 @@ fn put_values(image: &mut [u8], values: &[i32; 64])
     }
 }
 
-// Writes the image of a run.
-pub fn store(plan: &[u8], image: &mut [u8], run: Run)
+// Writes the image of a run, with these moves crossed off and not the run's own.
+pub fn store(plan: &[u8], image: &mut [u8], run: Run, crossed: u64)
     requires { ⌜ planRefusal (now plan) ≡ 0 ⌝ }
     requires { ⌜ length (now image) ≡ 312 ⌝ }
-    ensures { λ r. ⌜ now (image .exit) ≡ imageOf (now (plan .entry)) (configurationIn run) (run .marks) ⌝ }
+    ensures { λ r. ⌜ now (image .exit) ≡ imageOf (now (plan .entry)) (configurationIn run) crossed ⌝ }
 {
     put_head(plan, image, run.oracle);
-    put_u64(image, 16, run.marks);
+    put_u64(image, 16, crossed);
     put_bytes(image, 24, &run.locations);
     put_bytes(image, 40, &run.last_ports);
     put_values(image, &run.values);

@@ -1,28 +1,28 @@
 -- One move done part by part from the table of choices is the move of the definitions.
 use mathlib.Core.Path.{_≡_, refl, sym, ap, ap₂, _∙_, subst}
 use Prim.Native.Nat.{ℕ, zero, suc, _+_, _*_, _≤_, _<_}
-use native.Mathlib.Nat.{le-refl, le-trans, le-of-lt, not-suc-le-zero, lt-irrefl}
+use native.Mathlib.Nat.{le-refl, le-of-lt, not-suc-le-zero}
 use native.Mathlib.Numerals.{add-one}
 use native.Mathlib.Omega.{arith}
 use mathlib.Core.Bool.{Bool, true, false, not, cond}
 use mathlib.Core.List.{List}
 use lib.ListN.{length, getD, set, length-set}
 use lib.Seq.{getD-set-same, getD-set-other}
-use lib.Dec.{ltb, eqb}
+use lib.Dec.{ltb}
 use lib.IntN.{ℤ}
 use Rattle.semantics.specs.Bytes.{table}
 use Rattle.semantics.specs.Plan.{Plan, components, transitions, interactions, spanAt, transitionAt, destination, actionOf, interactionAt, portIn, takesPart, transferOf}
 use Rattle.semantics.specs.Code.{State, acted}
 use Rattle.semantics.specs.Rules.{planRefusal}
 use Rattle.semantics.specs.Move.{used, enabled, actedBelow, fired}
-use Rattle.semantics.proofs.Basics.{bool-cases, absurd-bool, below-suc, ltb-true, ltb-false, eq-eqb, ne-eqb}
+use Rattle.semantics.proofs.Basics.{bool-cases, below-suc, ltb-true, ltb-false, eq-eqb, ne-eqb}
 use Rattle.semantics.proofs.OneMove.{uses}
 use Rattle.code.proofs.Sections.{laid-accepted}
-use Rattle.moves.specs.Choices.{choiceTable}
+use Rattle.choices.specs.Choices.{choiceTable}
 use Rattle.moves.specs.Parts.{picked, Picked, actPart, actsBelow, setWhere, setBelow}
 use Rattle.lane.specs.Runs.{site}
-use Rattle.moves.proofs.PlanLaws.{part-lt}
-use Rattle.moves.proofs.ChoiceLaws.{choice-at, table-all}
+use Rattle.choices.proofs.PlanLaws.{part-lt}
+use Rattle.choices.proofs.ChoiceLaws.{choice-at, table-all}
 
 -- ---- a list written place by place
 

@@ -1,8 +1,7 @@
 // One move: the transfer, the actions of the components that take part, then their destinations and last ports.
-use crate::choice;
-use crate::masks;
+use choices::choice;
+use choices::masks;
 use code::eval;
-use lane::run::Run;
 use words::bytes;
 ghost use mathlib.Core.Path.{_≡_};
 ghost use mathlib.Core.Bool.{true};
@@ -11,9 +10,9 @@ ghost use lib.ListN.{length, getD};
 ghost use Rattle.semantics.specs.Plan.{components, interactions, destination, portIn, takesPart};
 ghost use Rattle.semantics.specs.Rules.{planRefusal};
 ghost use Rattle.semantics.specs.Move.{enabled, fired};
-ghost use Rattle.moves.specs.Choices.{choiceTable};
+ghost use Rattle.choices.specs.Choices.{choiceTable};
 ghost use Rattle.moves.specs.Parts.{picked, Picked, actPart, actsBelow, setWhere, setBelow};
-ghost use Rattle.lane.specs.Runs.{site, stateOf, runOf};
+ghost use Rattle.lane.specs.Runs.{site};
 
 fn wide(n: u16) -> usize
     ensures { λ r. ⌜ (r ≡ n) × (r < 65536) ⌝ }
@@ -109,24 +108,22 @@ fn arrive(plan: &[u8], locations: &mut [u8; 16], ports: &mut [u8; 16], picks: &[
     }
 }
 
-// The lane after interaction i; the table of choices is that of the state before it.
-pub fn fire(plan: &[u8], run: Run, picks: &[u16; 256], i: usize) -> Run
+// Makes the state that of after interaction i; the table of choices is that of the state before it.
+pub fn fire(
+    plan: &[u8],
+    locations: &mut [u8; 16],
+    ports: &mut [u8; 16],
+    values: &mut [i32; 64],
+    picks: &[u16; 256],
+    i: usize,
+)
     requires { ⌜ planRefusal (now plan) ≡ 0 ⌝ }
-    requires { ⌜ (i < interactions (now plan)) × (now picks ≡ choiceTable (now plan) (stateOf run)) × (enabled (now plan) (stateOf run) i ≡ true) ⌝ }
-    ensures { λ r. ⌜ r ≡ runOf (record { state = fired (now (plan .entry)) (stateOf run) i; oracle = run .oracle }) (run .marks) ⌝ }
+    requires { ⌜ (i < interactions (now plan)) × (now picks ≡ choiceTable (now plan) (site (now locations) (now ports) (now values))) × (enabled (now plan) (site (now locations) (now ports) (now values)) i ≡ true) ⌝ }
+    requires { ⌜ (length (now locations) ≡ 16) × (length (now ports) ≡ 16) × (length (now values) ≡ 64) ⌝ }
+    ensures { λ _. ⌜ site (now (locations .exit)) (now (ports .exit)) (now (values .exit)) ≡ fired (now (plan .entry)) (site (now (locations .entry)) (now (ports .entry)) (now (values .entry))) i ⌝ }
 {
-    let mut locations = run.locations;
-    let mut ports = run.last_ports;
-    let mut values = run.values;
     let at = masks::interaction_at(plan, i);
-    eval::act(plan, &mut values, at + 20);
-    acts(plan, &locations, &ports, &mut values, picks, i);
-    arrive(plan, &mut locations, &mut ports, picks, i);
-    Run {
-        locations: locations,
-        last_ports: ports,
-        values: values,
-        oracle: run.oracle,
-        marks: run.marks,
-    }
+    eval::act(plan, values, at + 20);
+    acts(plan, locations, ports, values, picks, i);
+    arrive(plan, locations, ports, picks, i);
 }

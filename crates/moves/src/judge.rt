@@ -1,4 +1,4 @@
-// The event of a state, what the oracle makes of it, and the search for a move that ends good.
+// The event of a state, what the oracle makes of it, and the lane after a move.
 use crate::fire;
 use code::eval;
 use lane::image;
@@ -7,13 +7,11 @@ use words::bits;
 use words::bytes;
 ghost use mathlib.Core.Path.{_≡_};
 ghost use mathlib.Core.Bool.{true};
-ghost use mathlib.Core.List.{[], _∷_};
-ghost use Prim.Native.Nat.{ℕ, _+_, _<_};
-ghost use Rattle.semantics.specs.Bytes.{allOf, lowest, bit};
+ghost use Prim.Native.Nat.{_+_, _<_};
 ghost use Rattle.semantics.specs.Plan.{interactions, oracleStates, letters, next};
 ghost use Rattle.semantics.specs.Rules.{planRefusal};
-ghost use Rattle.semantics.specs.Move.{enabled, letter, judged, after, good};
-ghost use Rattle.moves.specs.Choices.{choiceTable};
+ghost use Rattle.semantics.specs.Move.{enabled, letter, judged, after};
+ghost use Rattle.choices.specs.Choices.{choiceTable};
 ghost use Rattle.lane.specs.Runs.{site, stateOf, configurationIn, runOf};
 
 // The event's letter: the sum of 2^k over the true propositions k.
@@ -57,45 +55,28 @@ pub fn judge(plan: &[u8], mut run: Run) -> Run
     run
 }
 
-// The lane after interaction i, its event read; the table of choices is that of the state before it.
+// The lane after interaction i, its event read; the table of choices is that of the state before it. The record is copied once in, by its parts,
+// and once out.
 pub fn advance(plan: &[u8], run: Run, picks: &[u16; 256], i: usize) -> Run
     requires { ⌜ planRefusal (now plan) ≡ 0 ⌝ }
     requires { ⌜ (i < interactions (now plan)) × (now picks ≡ choiceTable (now plan) (stateOf run)) × (enabled (now plan) (stateOf run) i ≡ true) ⌝ }
     requires { ⌜ run .oracle < oracleStates (now plan) ⌝ }
     ensures { λ r. ⌜ (r ≡ runOf (after (now (plan .entry)) (configurationIn run) i) (run .marks)) × (r .oracle < oracleStates (now (plan .entry))) ⌝ }
 {
-    let moved = fire::fire(plan, run, picks, i);
-    judge(plan, moved)
-}
-
-// A move, or the number of interactions where there is none, and the lane after it.
-pub struct Tried {
-    pub found: usize,
-    pub run: Run,
-}
-
-// The lowest candidate that ends good, and the lane after it.
-pub fn safe_move(plan: &[u8], run: Run, picks: &[u16; 256], cand: u64) -> Tried
-    requires { ⌜ planRefusal (now plan) ≡ 0 ⌝ }
-    requires { ⌜ (now picks ≡ choiceTable (now plan) (stateOf run)) × (run .oracle < oracleStates (now plan)) × ((j : ℕ) → bit cand j ≡ true → (j < interactions (now plan)) × (enabled (now plan) (stateOf run) j ≡ true)) ⌝ }
-    ensures { λ r. ⌜ r .found ≡ lowest (interactions (now (plan .entry))) (λ j. allOf (bit cand j ∷ good (now (plan .entry)) (after (now (plan .entry)) (configurationIn run) j) ∷ [])) ⌝ }
-    ensures { λ r. ⌜ (r .found < interactions (now (plan .entry)) → r .run ≡ runOf (after (now (plan .entry)) (configurationIn run) (r .found)) (run .marks)) ⌝ }
-{
-    let mut left = cand;
-    while left != 0 {
-        let rest = bits::without_lowest(left);
-        let i = bits::lowest_bit(left);
-        let moved = advance(plan, run, picks, i);
-        if image::good(plan, moved.oracle) {
-            return Tried {
-                found: i,
-                run: moved,
-            };
-        }
-        left = rest;
-    }
-    Tried {
-        found: bytes::field(plan, 16),
-        run: run,
-    }
+    let mut locations = run.locations;
+    let mut ports = run.last_ports;
+    let values = run.values;
+    let mut next = Run {
+        locations: locations,
+        last_ports: ports,
+        values: values,
+        oracle: run.oracle,
+        marks: run.marks,
+    };
+    fire::fire(plan, &mut locations, &mut ports, &mut next.values, picks, i);
+    let event = letter(plan, &locations, &ports, &next.values);
+    next.locations = locations;
+    next.last_ports = ports;
+    next.oracle = next_of(plan, run.oracle, event);
+    next
 }

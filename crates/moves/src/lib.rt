@@ -1,5 +1,3 @@
 // One move: the transitions chosen, the enabled and eligible interactions, the move itself and the oracle.
-pub mod choice;
 pub mod fire;
 pub mod judge;
-pub mod masks;

@@ -1,7 +1,1 @@
-pub mod Conjunctions
-pub mod Counted
-pub mod Filled
 pub mod NameLaws
-pub mod OracleRows
-pub mod Ports
-pub mod RankRows

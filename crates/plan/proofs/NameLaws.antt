@@ -4,20 +4,21 @@ use Prim.Native.Nat.{ℕ, zero, suc, _+_, _≤_, _<_}
 use native.Mathlib.Omega.{arith}
 use native.Mathlib.Nat.{le-refl}
 use native.Mathlib.Numerals.{add-one}
-use mathlib.Core.Bool.{Bool, true, false, _&&_, _||_}
+use mathlib.Core.Bool.{Bool, true, false, not, _&&_, _||_}
 use mathlib.Core.List.{List}
 use lib.ListN.{length, getD, set, length-set, replicate}
 use lib.Seq.{getD-set-same, getD-set-other}
-use lib.Dec.{ltb, eqb}
+use lib.Dec.{leb, ltb, eqb}
 use lib.Bits.{bitOr}
 use Rattle.semantics.specs.Bytes.{allOf, every, some-below, bit, mask}
-use Rattle.semantics.specs.Plan.{Plan, Span, variables, components, owner, portIn, takesPart}
+use Rattle.semantics.specs.Plan.{Plan, Span, codeWords, variables, components, owner, portIn, takesPart}
 use Rattle.semantics.specs.Code.{Role, ownedBy, sharedIn, spanOk}
 use Rattle.semantics.specs.Calls.{withBit}
 use Rattle.semantics.specs.Rules.{variableOk}
 use Rattle.semantics.proofs.Basics.{bool-cases, same-test, and-both, both-and, each, all-of, ltb-true, ltb-false, lt-ltb, le-ltb, eqb-true, eqb-same, eqb-false, ne-eqb, every-at, some-has, some-found}
 use Rattle.semantics.proofs.Masks.{bit-mask, bit-mask-over, bit-zero}
 use Rattle.words.proofs.BitLaws.{bit-or}
+use Rattle.checker.proofs.Depths.{span-empty}
 use Rattle.plan.specs.Owned.{Owned, partMask}
 
 -- what the first v variables leave: mask c has the ones among them that component c owns
@@ -139,6 +140,15 @@ gathered-all p i m l o g v =
 -- the same names make the same rules
 pub span-names : (p : Plan) (r : Role) (f g : ℕ → Bool) (s : Span) → ((v : ℕ) → f v ≡ g v) → spanOk p r f s ≡ spanOk p r g s
 span-names p r f g s e = λ i. spanOk p r (λ v. e v i) s
+
+-- a span that is empty and may be keeps the rules where it starts in the code or at its end
+pub span-blank : (p : Plan) (r : Role) (f : ℕ → Bool) (s : Span) → r .looks ≡ false → s .size ≡ 0 → leb (s .start) (codeWords p) ≡ spanOk p r f s
+span-blank p r f s b e =
+    with-true (leb (s .start) (codeWords p)) ∙ ap (λ (x : Bool). leb (s .start) (codeWords p) && not x) (sym b) ∙ span-empty p r f s e
+  where
+    with-true : (x : Bool) → x ≡ (x && true)
+    with-true true = refl
+    with-true false = refl
 
 pub zeros-at : (n c : ℕ) → _≡_ {A = ℕ} (getD {A = ℕ} (replicate {A = ℕ} n 0) c 0) 0
 zeros-at zero c = refl

@@ -1,12 +1,12 @@
-// The check of a plan: refusals 1 to 10.
+// The check of a plan: refusals 1 to 10 in order, with the rules of code spans (10).
+use tables::header;
+use tables::oracle;
+use tables::ranks;
+use tables::records;
 ghost use mathlib.Core.Path.{_≡_};
 ghost use Rattle.semantics.specs.Rules.{planRefusal};
 
-pub mod header;
 pub mod names;
-pub mod oracle;
-pub mod ranks;
-pub mod records;
 pub mod spans;
 
 // The number of the first refusal that applies to the plan, 0 where none does.

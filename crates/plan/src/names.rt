@@ -2,6 +2,7 @@
 ghost use mathlib.Core.Path.{_≡_};
 ghost use Prim.Native.Nat.{ℕ, _<_};
 ghost use mathlib.Core.Bool.{true};
+ghost use lib.ListN.{length, getD};
 ghost use Rattle.semantics.specs.Bytes.{bit, every};
 ghost use Rattle.semantics.specs.Plan.{variables, interactions};
 ghost use Rattle.semantics.specs.Code.{sharedIn, declared};
@@ -9,22 +10,21 @@ ghost use Rattle.semantics.specs.Rules.{variableOk};
 ghost use Rattle.code.specs.Laid.{Laid};
 ghost use Rattle.plan.specs.Owned.{Owned};
 
-// The variables that each component owns.
-pub fn owned_masks(plan: &[u8]) -> [u64; 16]
+// The variables that each component owns, put into masks that are empty.
+pub fn owned_masks(plan: &[u8], out: &mut [u64; 16])
     requires { ⌜ Laid (now plan) ⌝ }
     requires { ⌜ every (variables (now plan)) (variableOk (now plan)) ≡ true ⌝ }
-    ensures { λ r. ⌜ Owned (now (plan .entry)) r ⌝ }
+    requires { ⌜ (length (now out) ≡ 16) × ((c : ℕ) → getD (now out) c 0 ≡ 0) ⌝ }
+    ensures { λ r. ⌜ Owned (now (plan .entry)) (now (out .exit)) ⌝ }
 {
     let count = words::bytes::field(plan, 12);
     let start = words::bytes::field(plan, 28);
-    let mut out = [0u64; 16];
     let mut v = 0;
     while v < count {
         let owner = words::bytes::wide(plan[start + 8 * v]);
         out[owner] = words::bits::with_bit(out[owner], v);
         v = v + 1;
     }
-    out
 }
 
 // A component's mask where it takes part, none else.

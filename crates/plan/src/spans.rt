@@ -3,14 +3,49 @@ ghost use mathlib.Core.Path.{_≡_};
 ghost use Prim.Native.Nat.{ℕ, _<_};
 ghost use mathlib.Core.Bool.{true};
 ghost use Rattle.semantics.specs.Bytes.{bit, every};
-ghost use Rattle.semantics.specs.Plan.{variables, transitions, interactions, propositions, componentOf};
-ghost use Rattle.semantics.specs.Code.{declared};
+ghost use Rattle.semantics.specs.Plan.{variables, transitions, interactions, propositions, transitionAt, componentOf, guardOf, actionOf};
+ghost use Rattle.semantics.specs.Code.{asGuard, asUpdate, ownedBy, declared, spanOk};
 ghost use Rattle.semantics.specs.Rules.{variableOk, transitionOk, transitionCode, interactionCode, propositionCode, codeOk};
 ghost use Rattle.code.specs.Laid.{Laid};
 ghost use Rattle.plan.specs.Owned.{Owned};
 use crate::names;
-use code::span;
+use checker::span;
 use words::bytes;
+
+// The variables that the component of transition t, whose record is at a place, owns.
+fn own_mask(plan: &[u8], owned: &[u64; 16], t: usize, at: usize) -> u64
+    requires { ⌜ Laid (now plan) × (t < transitions (now plan)) × (componentOf (now plan) t < 16) ⌝ }
+    requires { ⌜ Owned (now plan) (now owned) × (at ≡ transitionAt (now plan) t) ⌝ }
+    ensures { λ r. ⌜ ((v : ℕ) → bit r v ≡ ownedBy (now (plan .entry)) (componentOf (now (plan .entry)) t) v) ⌝ }
+{
+    owned[bytes::wide(plan[at])]
+}
+
+// The guard of that transition. An empty one asks for no mask.
+fn guard_code(plan: &[u8], owned: &[u64; 16], t: usize, at: usize) -> bool
+    requires { ⌜ Laid (now plan) × (t < transitions (now plan)) × (componentOf (now plan) t < 16) ⌝ }
+    requires { ⌜ Owned (now plan) (now owned) × (at ≡ transitionAt (now plan) t) ⌝ }
+    ensures { λ r. ⌜ r ≡ spanOk (now (plan .entry)) asGuard (ownedBy (now (plan .entry)) (componentOf (now (plan .entry)) t)) (guardOf (now (plan .entry)) t) ⌝ }
+{
+    if bytes::field(plan, at + 6) == 0 {
+        return bytes::field(plan, at + 4) <= bytes::field(plan, 24);
+    }
+    let mine = own_mask(plan, owned, t, at);
+    span::span_ok(plan, false, false, mine, at + 4)
+}
+
+// Its action, likewise.
+fn action_code(plan: &[u8], owned: &[u64; 16], t: usize, at: usize) -> bool
+    requires { ⌜ Laid (now plan) × (t < transitions (now plan)) × (componentOf (now plan) t < 16) ⌝ }
+    requires { ⌜ Owned (now plan) (now owned) × (at ≡ transitionAt (now plan) t) ⌝ }
+    ensures { λ r. ⌜ r ≡ spanOk (now (plan .entry)) asUpdate (ownedBy (now (plan .entry)) (componentOf (now (plan .entry)) t)) (actionOf (now (plan .entry)) t) ⌝ }
+{
+    if bytes::field(plan, at + 10) == 0 {
+        return bytes::field(plan, at + 8) <= bytes::field(plan, 24);
+    }
+    let mine = own_mask(plan, owned, t, at);
+    span::span_ok(plan, true, false, mine, at + 8)
+}
 
 // The guard and the action of a transition, which name its component's variables.
 fn transition_code(plan: &[u8], owned: &[u64; 16], t: usize) -> bool
@@ -19,11 +54,10 @@ fn transition_code(plan: &[u8], owned: &[u64; 16], t: usize) -> bool
     ensures { λ r. ⌜ r ≡ transitionCode (now (plan .entry)) t ⌝ }
 {
     let at = bytes::field(plan, 30) + 12 * t;
-    let mine = owned[bytes::wide(plan[at])];
-    if !span::span_ok(plan, false, false, mine, at + 4) {
+    if !guard_code(plan, owned, t, at) {
         return false;
     }
-    span::span_ok(plan, true, false, mine, at + 8)
+    action_code(plan, owned, t, at)
 }
 
 fn transitions_code(plan: &[u8], owned: &[u64; 16]) -> bool
@@ -43,14 +77,18 @@ fn transitions_code(plan: &[u8], owned: &[u64; 16]) -> bool
     true
 }
 
-// The guard and the transfer of an interaction, which name the variables of the components taking part.
+// The guard and the transfer of an interaction, which name the variables of the components taking part. Empty ones ask for no mask.
 fn interaction_code(plan: &[u8], owned: &[u64; 16], i: usize) -> bool
     requires { ⌜ Laid (now plan) ⌝ }
     requires { ⌜ (i < interactions (now plan)) × Owned (now plan) (now owned) ⌝ }
     ensures { λ r. ⌜ r ≡ interactionCode (now (plan .entry)) i ⌝ }
 {
-    let shared = names::shared_mask(plan, owned, i);
     let at = bytes::field(plan, 32) + 24 * i;
+    if bytes::field(plan, at + 18) + bytes::field(plan, at + 22) == 0 {
+        let words = bytes::field(plan, 24);
+        return (bytes::field(plan, at + 16) <= words) & (bytes::field(plan, at + 20) <= words);
+    }
+    let shared = names::shared_mask(plan, owned, i);
     if !span::span_ok(plan, false, false, shared, at + 16) {
         return false;
     }
@@ -105,7 +143,8 @@ pub fn code_ok(plan: &[u8]) -> bool
     requires { ⌜ every (transitions (now plan)) (transitionOk (now plan)) ≡ true ⌝ }
     ensures { λ r. ⌜ r ≡ codeOk (now (plan .entry)) ⌝ }
 {
-    let owned = names::owned_masks(plan);
+    let mut owned = [0u64; 16];
+    names::owned_masks(plan, &mut owned);
     if !transitions_code(plan, &owned) {
         return false;
     }

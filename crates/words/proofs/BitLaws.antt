@@ -1,16 +1,16 @@
 -- What the operations on 64-bit words do to the bits of a number: shifts, and, or, the complement, the lowest set bit. Laws are stated over a width n.
 use mathlib.Core.Path.{_≡_, refl, sym, ap, ap₂, _∙_}
 use Prim.Native.Nat.{ℕ, zero, suc, _+_, _-_, _*_, _/_, _%_, _^_, _≤_, _<_, zero-le, suc-le-suc}
-use native.Mathlib.Nat.{le-of-suc-le-suc, not-suc-le-zero, le-trans, lt-of-le-of-lt, pow-suc, div-one, add-zero, zero-add, suc-add, one-mul, mod-lt, zero-lt-suc}
+use native.Mathlib.Nat.{le-of-suc-le-suc, not-suc-le-zero, lt-of-le-of-lt, pow-suc, div-one, add-zero, zero-add, suc-add, one-mul, mod-lt, zero-lt-suc}
 use native.Mathlib.Numerals.{one-add}
 use native.Mathlib.Omega.{arith}
 use mathlib.Core.Bool.{Bool, true, false, not, cond, _&&_, _||_}
 use lib.Dec.{ltb, eqb, eqb·suc-zero, eqb·zero-suc, eqb·suc-suc, leb·suc-suc, lit<}
-use lib.Pow.{pow-pos, shr-shr, shr-le, shl-exact}
+use lib.Pow.{pow-pos, shr-shr, shl-exact}
 use lib.Bits.{bitAnd, bitOr, and-shr, and-mod, and-mask, and-le-l, or-shr, or-mod, or-lt}
 use lib.Count.{trailingZeros, under}
 use Rattle.semantics.specs.Bytes.{implies, every, some-below, lowest, bit, mask}
-use Rattle.semantics.proofs.Basics.{bool-cases, absurd-bool, same-test, not-yes, not-no, implies-yes, implies-at, ltb-true, lt-ltb, le-ltb, ltb-false, eqb-true, eq-eqb, ne-eqb, every-at, every-all, some-found, some-none, Lowest, lowest-is, lowest-unique, lowest-none}
+use Rattle.semantics.proofs.Basics.{bool-cases, absurd-bool, same-test, not-yes, not-no, ltb-true, lt-ltb, le-ltb, eqb-true, eq-eqb, ne-eqb, every-at, every-all, some-found, some-none, Lowest, lowest-is, lowest-unique, lowest-none}
 use Rattle.semantics.proofs.Masks.{bit-zero, bit-mask-over, mask-same}
 
 -- ---- shifts
@@ -232,36 +232,6 @@ pub inside-test : (n a b : ℕ) → a < 2 ^ n → b < 2 ^ n → eqb (bitAnd a (2
 inside-test n a b h l =
     no-bit n (bitAnd a (2 ^ n - 1 - b)) (λ j. implies (bit a j) (bit b j)) (lt-of-le-of-lt (and-le-l a (2 ^ n - 1 - b)) h)
     (λ k q. bit-and a (2 ^ n - 1 - b) k ∙ ap (λ (c : Bool). bit a k && c) (bit-not n b k l q) ∙ and-not (bit a k) (bit b k))
-
--- m >> n == 0
-pub below-test : (w m n : ℕ) → m < 2 ^ w → eqb (m / 2 ^ n) 0 ≡ every w (λ j. implies (bit m j) (ltb j n))
-below-test w m n h = same-test (eqb (m / 2 ^ n) 0) (every w (λ j. implies (bit m j) (ltb j n))) there back
-  where
-    over : m / 2 ^ n ≡ 0 → (j : ℕ) → n ≤ j → bit m j ≡ false
-    over z j l =
-        let e : j ≡ n + (j - n) = omega arith in
-        ap (bit m) e ∙ sym (bit-shr m n (j - n)) ∙ ap (λ (x : ℕ). bit x (j - n)) z ∙ bit-zero (j - n)
-
-    there : eqb (m / 2 ^ n) 0 ≡ true → every w (λ j. implies (bit m j) (ltb j n)) ≡ true
-    there q =
-        every-all w (λ j. implies (bit m j) (ltb j n))
-        (λ j l. implies-yes (bit m j) (ltb j n) (λ s. bool-cases (ltb j n) (λ t. t) (λ t. absurd-bool s (over (eqb-true _ 0 q) j (ltb-false j n t)))))
-
-    clear-at : every w (λ j. implies (bit m j) (ltb j n)) ≡ true → (k : ℕ) → bit m (n + k) ≡ true → ltb (n + k) w ≡ true → bit m (n + k) ≡ false
-    clear-at s k e t =
-        let l = ltb-true (n + k) n (implies-at (bit m (n + k)) (ltb (n + k) n) (every-at w (λ j. implies (bit m j) (ltb j n)) s (n + k) (ltb-true (n + k) w t)) e) in
-        absurd (omega arith)
-
-    back : every w (λ j. implies (bit m j) (ltb j n)) ≡ true → eqb (m / 2 ^ n) 0 ≡ true
-    back s =
-        eq-eqb (m / 2 ^ n) 0 (no-bits w (m / 2 ^ n) (lt-of-le-of-lt (shr-le m n) h)
-        (λ k l. bit-shr m n k ∙ bool-cases (bit m (n + k))
-        (λ e. bool-cases (ltb (n + k) w) (λ t. clear-at s k e t) (λ t. bit-above w m (n + k) h (ltb-false (n + k) w t)))
-        (λ e. e)))
-
--- each number below w is below n
-pub all-below : (w m n : ℕ) → w ≤ n → true ≡ every w (λ j. implies (bit m j) (ltb j n))
-all-below w m n h = sym (every-all w (λ j. implies (bit m j) (ltb j n)) (λ j l. implies-yes (bit m j) (ltb j n) (λ s. lt-ltb j n (le-trans l h))))
 
 -- ---- the numbers below n
 

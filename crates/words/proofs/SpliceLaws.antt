@@ -8,7 +8,7 @@ use native.Mathlib.Omega.{arith}
 use mathlib.Core.List.{List, [], _∷_, _++_, append-assoc, append-nil}
 use lib.Bits.{bitAnd, and-mask}
 use lib.Pow.{shr-shr}
-use lib.ListN.{length, take, drop, set, length-append, length-drop, drop-of-length-le}
+use lib.ListN.{length, take, drop, set, length-append, drop-of-length-le}
 use lib.Seq.{length-take-le, take-at, take-length, drop-append-add, drop-drop, sets, sets-eq, paste}
 use Rattle.semantics.specs.Bytes.{leBytes}
 use Rattle.semantics.proofs.Masks.{length-leBytes}
@@ -16,14 +16,6 @@ use Rattle.words.specs.Splice.{splice}
 
 head-length : (l : List ℕ) (k : ℕ) (vs : List ℕ) → k + length vs ≤ length l → length (take k l ++ vs) ≡ k + length vs
 head-length l k vs h = length-append (take k l) vs ∙ ap (λ (n : ℕ). n + length vs) (length-take-le k l (omega arith))
-
-pub length-splice : (l : List ℕ) (k : ℕ) (vs : List ℕ) → k + length vs ≤ length l → length (splice l k vs) ≡ length l
-unfolding splice
-length-splice l k vs h =
-    let a = length-append (take k l ++ vs) (drop (k + length vs) l) in
-    let b = head-length l k vs h in
-    let d = length-drop (k + length vs) l in
-    omega arith
 
 -- two parts, the second where the first ends, are one part
 pub splice-splice : (l : List ℕ) (k : ℕ) (p : List ℕ) (j : ℕ) (q : List ℕ) → j ≡ k + length p → k + length p ≤ length l

@@ -52,17 +52,6 @@ pub fn inside(a: u64, b: u64) -> bool
     a & !b == 0
 }
 
-// Whether each number in the mask is below n.
-pub fn bits_below(m: u64, n: usize) -> bool
-    requires { ⌜ n ≤ 64 ⌝ }
-    ensures { λ r. ⌜ r ≡ every 64 (λ j. implies (bit m j) (ltb j n)) ⌝ }
-{
-    if n == 64 {
-        return true;
-    }
-    m >> n == 0
-}
-
 // The mask of all numbers below n.
 pub fn first_bits(n: usize) -> u64
     requires { ⌜ n ≤ 64 ⌝ }

@@ -1,5 +1,4 @@
 // yard-run: reads a plan from standard input, starts a lane and settles at most six times, a line each.
-ghost use Prim.Native.Nat.{_≤_};
 
 // One byte more than the longest lawful plan: a longer input meets the same number as the whole would.
 const MOST: usize = 14497;

@@ -1,148 +1,66 @@
-use mathlib.Core.List.{[]}
-use mathlib.Core.Path.{_≡_, refl, sym, ap, _∙_}
-use Prim.Native.Nat.{_+_, _*_, _-_, _≤_}
-use native.Mathlib.Omega.{arith}
-use lib.IntN.{pos}
-use lib.ListN.{length}
+use mathlib.Core.Path.{refl, sym, _∙_}
 use borrow.Author.Needs.{needs}
-use Rattle.semantics.proofs.Spans.{acted-long}
-use Rattle.semantics.specs.Code.{State, ran, acted}
-use Rattle.semantics.specs.Plan.{spanAt}
-use Rattle.code.specs.Held.{site, held, machine}
-use Rattle.code.specs.Taken.{Taken}
-use Rattle.code.proofs.Sections.{laid-accepted}
-use Rattle.code.proofs.TakenSpans.{taken-read, word-inside}
-use Rattle.code.proofs.Turns.{decoded, turn-fits, turned, acted-read}
+use Rattle.code.proofs.TakenSpans.{taken-read}
+use Rattle.code.proofs.Turns.{acted-none, acted-read}
 use Rattle.code.proofs.eval.act.Statement.{statement}
 use Rattle.code.proofs.eval.act.Tie as tie
 
-abbrev Inv-loop : tie.InvT-loop
-Inv-loop plan values₀ at base start size stack₀ m₀ i₀ values stack m i = (i ≤ size) × (length stack ≡ 8)
-    × ((s : State) → s .values ≡ values₀ → machine stack (m .depth) (m .value) values ≡ ran plan s start i)
+add-field : tie.Need-add-field
+add-field c = search needs
 
-abbrev μ-loop : tie.MeasureT-loop
-μ-loop plan values₀ at base start size stack₀ m₀ i₀ values stack m i = size - i
+field-requires : tie.Need-field-requires
+field-requires c κs = search needs
 
--- the span was taken
-taken : (c : tie.After-field3 Inv-loop μ-loop)
-    → Taken (c .before .before .before .before .args .plan .now) 0 (record { start = c .before .field2 .result; size = c .field3 .result })
-taken c =
-    let s = c .before .before .before .before in
-    taken-read _ _ _ _ _ (c .before .field2 .ensures .0) (c .field3 .ensures .0) (s .pre .1 .0 .1)
-
--- the word lies in the slice
-inside : (c : tie.In-loop Inv-loop μ-loop)
-    → c .before .before .before .before .field .result + 2 * (c .before .before .before .field2 .result + c .before .loop .i) + 2
-    ≤ length (c .before .before .before .before .before .before .args .plan .now)
-inside c =
-    let h = c .before .before in
-    let f = h .before .before in
-    let s = f .before .before in
-    omega (arith, f .field .ensures .0, word-inside _ (laid-accepted _ (s .pre .0)) _ _ (taken h) (c .before .loop .i) (c .loop-test .taken))
-
-field-requires : tie.Need-field-requires Inv-loop μ-loop
-field-requires c κs = omega (arith, laid-accepted _ (c .before .pre .0) .long)
-
-field-requires-2 : tie.Need-field-requires-2 Inv-loop μ-loop
-field-requires-2 c κs = omega arith
-
-add-field : tie.Need-add-field Inv-loop μ-loop
-add-field c = omega arith
-
-field-requires-3 : tie.Need-field-requires-3 Inv-loop μ-loop
-field-requires-3 c κs = omega arith
-
-loop-holds : tie.Need-loop-holds Inv-loop μ-loop
-unfolding held ran
-loop-holds c = (omega arith, refl, λ s e. ap (λ vs. machine [] 0 (pos 0) vs) (sym e))
-
-add-u16-at : tie.Need-add-u16-at Inv-loop μ-loop
-add-u16-at c = omega (arith, inside c)
-
-mul-u16-at : tie.Need-mul-u16-at Inv-loop μ-loop
-mul-u16-at c = omega (arith, inside c)
-
-add-u16-at-2 : tie.Need-add-u16-at-2 Inv-loop μ-loop
-add-u16-at-2 c = omega (arith, inside c)
-
-u16-at-requires : tie.Need-u16-at-requires Inv-loop μ-loop
-u16-at-requires c κs = inside c
-
-kind-requires : tie.Need-kind-requires Inv-loop μ-loop
-kind-requires c κs = search needs
-
-operand-requires : tie.Need-operand-requires Inv-loop μ-loop
-operand-requires c κs = search needs
-
-step-requires : tie.Need-step-requires Inv-loop μ-loop
-step-requires c κs =
-    let d = c .before in
-    let u = d .before .before .before in
-    let o = u .before in
-    let t = o .before in
-    let h = t .before in
-    let f = h .before .before in
-    let s = f .before .before in (
-      (
-        c .operand .ensures .1,
-        turn-fits _ (laid-accepted _ (s .pre .0)) _ _ (taken h) (site [] [] (s .args .values .now)) (t .loop .i) _ _ _ _ _
-            (decoded _ _ _ _ _ _ (f .field .ensures .0) (u .u16-at .ensures) (d .kind .ensures .0) (c .operand .ensures .0))
-            (t .loop .inv .2 (site [] [] (s .args .values .now)) refl) (o .loop-test .taken),
-      ),
-      t .loop .inv .1,
-    )
-
-add-i : tie.Need-add-i Inv-loop μ-loop
-add-i c = omega arith
-
-loop-less : tie.Need-loop-less Inv-loop μ-loop
-loop-less c = omega arith
-
-loop-again : tie.Need-loop-again Inv-loop μ-loop
-loop-again c =
-    let n = c .before in
-    let d = n .before in
-    let u = d .before .before .before in
-    let o = u .before in
-    let t = o .before in
-    let f = t .before .before .before in (
-      omega arith,
-      c .step .ensures .1,
-      λ s e. turned _ s _ _ _ _ _
-          (decoded _ _ _ _ _ _ (f .field .ensures .0) (u .u16-at .ensures) (d .kind .ensures .0) (n .operand .ensures .0))
-          (t .loop .inv .2 s e) (c .step .ensures .0 s),
-    )
-
-returns : tie.Need-returns Inv-loop μ-loop
+returns : tie.Need-returns
 returns c =
+    let f = c .before in
+    let s = f .before .before in
+    (λ x e. sym e ∙ acted-none _ x _ _ (f .field .ensures .0) (c .if1 .taken), s .pre .1 .1)
+
+field-requires-2 : tie.Need-field-requires-2
+field-requires-2 c κs = search needs
+
+update-requires : tie.Need-update-requires
+update-requires c κs =
     let t = c .before in
-    let h = t .before in
-    let g = h .before in
-    let s = g .before .before .before in
-    let q : t .loop .i ≡ h .field3 .result = omega arith in
-    let r : (x : State) → x .values ≡ s .args .values .now → t .loop .values ≡ acted (s .args .plan .now) x (spanAt (s .args .plan .now) (s .args .at)) .values
-    = λ x e. acted-read _ x _ _ _ (g .field2 .ensures .0) (h .field3 .ensures .0) _ (rw q at (t .loop .inv .2 x e)) in
-    (r, ap length (r (site [] [] (s .args .values .now)) refl) ∙ acted-long _ (site [] [] (s .args .values .now)) _ ∙ s .pre .1 .1)
+    let g = t .before in
+    let f = g .before .before in
+    let s = f .before .before in
+    (s .pre .0, (taken-read _ _ _ _ _ (g .field2 .ensures .0) (sym (t .if2 .taken) ∙ f .field .ensures .0) (s .pre .1 .0 .1), s .pre .1 .1))
+
+returns-2 : tie.Need-returns-2
+returns-2 c =
+    let t = c .before .before in
+    let g = t .before in
+    let f = g .before .before in (
+      λ x e. c .update .ensures .0 x e ∙ acted-read _ x _ _ _ (g .field2 .ensures .0) (sym (t .if2 .taken) ∙ f .field .ensures .0) _ refl,
+      c .update .ensures .1,
+    )
+
+update-requires-2 : tie.Need-update-requires-2
+update-requires-2 c κs =
+    let g = c .before .before in
+    let f = g .before .before in
+    let s = f .before .before in
+    (s .pre .0, (taken-read _ _ _ _ _ (g .field2 .ensures .0) (f .field .ensures .0) (s .pre .1 .0 .1), s .pre .1 .1))
+
+returns-3 : tie.Need-returns-3
+returns-3 c =
+    let g = c .before .before .before in
+    let f = g .before .before in (
+      λ x e. c .update2 .ensures .0 x e ∙ acted-read _ x _ _ _ (g .field2 .ensures .0) (f .field .ensures .0) _ refl,
+      c .update2 .ensures .1,
+    )
 
 pub act-spec : {M : Type 1} → statement M
 act-spec =
     tie.close
     (tie.spec
-    Inv-loop
-    μ-loop
-    field-requires
-    field-requires-2
     add-field
-    field-requires-3
-    loop-holds
-    add-u16-at
-    mul-u16-at
-    add-u16-at-2
-    u16-at-requires
-    kind-requires
-    operand-requires
-    step-requires
-    add-i
-    loop-less
-    loop-again
-    returns)
+    field-requires
+    returns
+    field-requires-2
+    update-requires
+    returns-2
+    update-requires-2
+    returns-3)

@@ -1,8 +1,15 @@
+use mathlib.Core.Path.{_≡_}
+use native.Mathlib.Omega.{arith}
+use lib.Bits.{bitAnd, and-mask}
 use borrow.Author.Needs.{needs}
 use Rattle.arith.proofs.Signed32.{back32}
 use Rattle.code.proofs.OperatorsHeld.{held-not, held-operated}
 use Rattle.code.proofs.eval.operators.Statement.{statement}
 use Rattle.code.proofs.eval.operators.Tie as tie
+
+-- the three low bits of a known operator are its number
+low-bits : (c : tie.Start) → bitAnd (c .args .n) 7 ≡ c .args .n
+low-bits c = omega (arith, and-mask (c .args .n) 3)
 
 sub-below : tie.Need-sub-below
 sub-below c = search needs
@@ -24,7 +31,7 @@ returns c =
     let s = l .before in
     rw (back32 (o .operated .result) (o .operated .ok))
     (held-not _ _ _ _ _ _ (c .if1 .taken) (s .pre .1)
-    (rw (back32 _ (l .left .given), back32 _ (t .struct-told .given .1 .0 .1)) at (o .operated .ensures)))
+    (rw (low-bits s, back32 _ (l .left .given), back32 _ (t .struct-told .given .1 .0 .1)) at (o .operated .ensures)))
 
 returns-2 : tie.Need-returns-2
 returns-2 c =
@@ -34,7 +41,7 @@ returns-2 c =
     let s = l .before in
     rw (back32 (o .operated .result) (o .operated .ok))
     (held-operated _ _ _ _ _ (s .pre .0) (c .if1 .left) (s .pre .2)
-    (rw (back32 _ (l .left .given), back32 _ (t .struct-told .given .1 .0 .1)) at (o .operated .ensures)))
+    (rw (low-bits s, back32 _ (l .left .given), back32 _ (t .struct-told .given .1 .0 .1)) at (o .operated .ensures)))
 
 pub operators-spec : {M : Type 1} → statement M
 operators-spec =

@@ -79,7 +79,7 @@ returns-4 c =
     let g = c .before .before .before .before in
     let j = g .before .before in
     let e = start-accepted (a .plan .now) (a .image .now) (accepted-plan (g .before .before .before .before .before)) (length-is (g .before .before .before .before)) (sym (good-is (g .before)) ∙ not-no _ (g .if3 .left)) in
-    (sym (ap (λ (o : Outcome). o .answer) e), c .before .before .store .ensures ∙ read-image (a .plan .now) (j .judge .result) (initial (a .plan .now)) 0 (run-is j) ∙ sym (ap (λ (o : Outcome). o .image) e))
+    (sym (ap (λ (o : Outcome). o .answer) e), c .before .before .store .ensures ∙ read-image (a .plan .now) (j .judge .result) (initial (a .plan .now)) 0 (run-is j) 0 ∙ sym (ap (λ (o : Outcome). o .image) e))
 
 pub start-spec : {M : Type 1} → statement M
 start-spec =

@@ -44,7 +44,7 @@ returns c = let v = c .before .before in
     let m = l .before .before .before .before .before .before .before in
     let h = m .before .before .before .before in
     let s = h .before .before .before .before in
-    written (s .args .plan .now) (configurationIn (s .args .t3)) (s .args .t3 .marks) (s .args .image .now) (s .pre .1) (locations-16 s) (ports-16 s) (values-64 s)
+    written (s .args .plan .now) (configurationIn (s .args .t3)) (s .args .crossed) (s .args .image .now) (s .pre .1) (locations-16 s) (ports-16 s) (values-64 s)
     (h .put-head .ensures) (m .put-u64 .ensures) (l .put-bytes .ensures) (q .put-bytes2 .ensures) (v .put-values .ensures)
 
 pub store-spec : {M : Type 1} → statement M

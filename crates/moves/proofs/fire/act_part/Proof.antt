@@ -4,7 +4,7 @@ use mathlib.Core.Path.{refl, subst, sym}
 use Rattle.semantics.specs.Plan.{spanAt}
 use Rattle.lane.specs.Runs.{site}
 use Rattle.code.specs.Taken.{Taken}
-use Rattle.moves.proofs.PlanLaws.{action-taken}
+use Rattle.choices.proofs.PlanLaws.{action-taken}
 use Rattle.moves.proofs.FireLaws.{Takes, takes, takes-none, acts-part, acts-none}
 use borrow.Author.Needs.{needs}
 use Rattle.moves.proofs.fire.act_part.Statement.{statement}

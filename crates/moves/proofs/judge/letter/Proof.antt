@@ -3,8 +3,8 @@ use Prim.Native.Nat.{ℕ, _+_, _-_, _*_, _≤_, _<_}
 use mathlib.Core.Path.{_≡_, ap, _∙_, subst, sym}
 use mathlib.Core.Bool.{Bool}
 use mathlib.Core.Logic.{⊎-elim}
-use Rattle.moves.proofs.MaskLaws.{mask-start, mask-yes, mask-no}
-use Rattle.moves.proofs.PlanLaws.{proposition-inside, proposition-taken}
+use Rattle.choices.proofs.MaskLaws.{mask-start, mask-yes, mask-no}
+use Rattle.choices.proofs.PlanLaws.{proposition-inside, proposition-taken}
 use Rattle.code.specs.Taken.{Taken}
 use Rattle.lane.specs.Runs.{site}
 use Rattle.semantics.proofs.Sound.{letter-lt}

@@ -1,13 +1,14 @@
-use mathlib.Core.Path.{sym, _∙_}
+use mathlib.Core.Path.{refl, sym, _∙_}
 use Rattle.semantics.specs.Rules.{codeOk}
 use Rattle.semantics.proofs.Basics.{not-yes, not-no}
-use Rattle.plan.proofs.Conjunctions.{first-fails, first-passed, second-says}
+use Rattle.tables.proofs.Conjunctions.{first-fails, first-passed, second-says}
+use Rattle.plan.proofs.NameLaws.{zeros-at}
 use borrow.Author.Needs.{needs}
 use Rattle.plan.proofs.spans.code_ok.Statement.{statement}
 use Rattle.plan.proofs.spans.code_ok.Tie as tie
 
 owned-masks-requires : tie.Need-owned-masks-requires
-owned-masks-requires c κs = search needs
+owned-masks-requires c κs = let s = c .before .before in (s .pre .0, (s .pre .1 .0, (refl, zeros-at 16)))
 
 transitions-code-requires : tie.Need-transitions-code-requires
 transitions-code-requires c κs = search needs

@@ -1,0 +1,215 @@
+-- One pass over the transitions, each taking its slot where that is still open, gives the table of the lowest ones.
+use mathlib.Core.Path.{_≡_, refl, sym, ap, ap₂, _∙_, subst}
+use Prim.Native.Nat.{ℕ, suc, _+_, _*_, _/_, _%_, _<_}
+use native.Mathlib.Nat.{le-refl, le-antisymm}
+use native.Mathlib.Numerals.{add-one}
+use native.Mathlib.Omega.{arith}
+use mathlib.Core.Bool.{Bool, true, false, cond, _&&_}
+use mathlib.Core.List.{List}
+use lib.ListN.{length, getD, set, replicate, length-set, length-replicate, getD-replicate}
+use lib.Seq.{getD-set-same, getD-set-other, ext-getD}
+use lib.Dec.{ltb, eqb}
+use Rattle.semantics.specs.Bytes.{lowest, table}
+use Rattle.semantics.specs.Plan.{Plan, transitions, componentOf, source, portOf, guardOf}
+use Rattle.semantics.specs.Code.{State, guardHolds}
+use Rattle.semantics.specs.Rules.{planRefusal}
+use Rattle.semantics.specs.Move.{ready, chosen}
+use Rattle.semantics.proofs.Basics.{bool-cases, absurd-bool, same-test, and-both, both-and, each, all-of, ltb-true, ltb-false, lt-ltb, le-ltb, eqb-true, eqb-same, eq-eqb, ne-eqb, lowest-le, length-table, getD-table}
+use Rattle.choices.specs.Choices.{choiceTable, slotOf, ripe, noted, lowestOr, choicesBelow}
+use Rattle.choices.proofs.PlanLaws.{component-lt, port-lt}
+
+-- ---- the lowest number, or another
+
+or-none : (d : ℕ) (f : ℕ → Bool) → lowestOr d 0 f ≡ d
+unfolding lowestOr lowest
+or-none d f = refl
+
+pick-lowest : (n : ℕ) (f : ℕ → Bool) → cond (ltb (lowest n f) n) (lowest n f) n ≡ lowest n f
+pick-lowest n f =
+    bool-cases (ltb (lowest n f) n) (λ e. rw e refl) (λ e. rw e (le-antisymm (ltb-false (lowest n f) n e) (lowest-le n f)))
+
+or-all : (n : ℕ) (f : ℕ → Bool) → lowestOr n n f ≡ lowest n f
+unfolding lowestOr
+or-all n f = pick-lowest n f
+
+or-step : (d n k : ℕ) (t b : Bool) → ltb k n ≡ t → n < d
+    → cond (ltb (cond t k (cond b n (suc n))) (suc n)) (cond t k (cond b n (suc n))) d ≡ cond (eqb (cond t k d) d && b) n (cond t k d)
+or-step d n k true b e h =
+    let l : k < n = ltb-true k n e in
+    let y : ltb k (suc n) ≡ true = lt-ltb k (suc n) (omega arith) in
+    let z : eqb k d ≡ false = ne-eqb k d (λ q. apart k n d l h q) in
+    rw (y, z) refl
+  where
+    apart : (k n d : ℕ) → k < n → n < d → k ≡ d → ⊥
+    apart k n d l h q = omega arith
+or-step d n k false true e h = rw (lt-ltb n (suc n) (le-refl (suc n)), eqb-same d) refl
+or-step d n k false false e h = rw (le-ltb (suc n) (suc n) (le-refl (suc n)), eqb-same d) refl
+
+-- one number more: it is taken where none was found before it
+or-next : (d n : ℕ) (f : ℕ → Bool) → n < d → lowestOr d (suc n) f ≡ cond (eqb (lowestOr d n f) d && f n) n (lowestOr d n f)
+unfolding lowestOr lowest
+or-next d n f h = or-step d n (lowest n f) (ltb (lowest n f) n) (f n) refl h
+
+-- ---- tables
+
+pub table-all : (n : ℕ) (l : List ℕ) (f : ℕ → ℕ) → length l ≡ n → ((k : ℕ) → k < n → getD l k 0 ≡ f k) → l ≡ table n f
+table-all n l f h e =
+    ext-getD 0 l (table n f) (h ∙ sym (length-table n f))
+    (λ k q. let m : k < n = subst (λ (x : ℕ). k < x) h q in e k m ∙ sym (getD-table n f 0 k m))
+
+pub table-same : (n : ℕ) (f g : ℕ → ℕ) → ((k : ℕ) → k < n → f k ≡ g k) → table n f ≡ table n g
+table-same n f g e = table-all n (table n f) g (length-table n f) (λ k h. getD-table n f 0 k h ∙ e k h)
+
+-- ---- what one transition does
+
+-- how a transition that is not taken leaves the table
+cond-no : (a b : Bool) (x y : List ℕ) → b ≡ false → cond (a && b) x y ≡ y
+cond-no true b x y e = rw e refl
+cond-no false b x y e = refl
+
+module _ (p : Plan) (s : State) (t : ℕ) (out : List ℕ) where
+  -- the component c is not at the transition's source g
+  pub noted-away : (c g : ℕ) → c ≡ componentOf p t → g ≡ source p t → (g ≡ getD (s .locations) c 0 → ⊥) → out ≡ noted p s t out
+  unfolding noted ripe
+  noted-away c g x y f =
+      sym (cond-no (eqb (getD out (slotOf p t) 0) (transitions p)) (ripe p s t) (set out (slotOf p t) t) out
+      (ap (λ (b : Bool). b && guardHolds p s (guardOf p t)) (ne-eqb _ _ (λ e. f (y ∙ e ∙ ap (λ (k : ℕ). getD (s .locations) k 0) (sym x))))))
+
+  -- a lower transition stands in the slot
+  pub noted-closed : (k n : ℕ) → k ≡ slotOf p t → n ≡ transitions p → (getD out k 0 ≡ n → ⊥) → out ≡ noted p s t out
+  unfolding noted
+  noted-closed k n x y f =
+      sym (ap (λ (b : Bool). cond (b && ripe p s t) (set out (slotOf p t) t) out)
+      (ne-eqb _ _ (λ e. f (ap (λ (j : ℕ). getD out j 0) x ∙ e ∙ sym y))))
+
+  -- the slot is open and the component at the source: the guard decides
+  noted-open : (c g k n : ℕ) → c ≡ componentOf p t → g ≡ source p t → g ≡ getD (s .locations) c 0 → k ≡ slotOf p t → n ≡ transitions p → getD out k 0 ≡ n
+      → noted p s t out ≡ cond (guardHolds p s (guardOf p t)) (set out k t) out
+  unfolding noted ripe
+  noted-open c g k n xc xg e xk xn h =
+      ap₂ (λ (a b : Bool). cond (a && (b && guardHolds p s (guardOf p t))) (set out (slotOf p t) t) out)
+      (eq-eqb _ _ (ap (λ (j : ℕ). getD out j 0) (sym xk) ∙ h ∙ xn))
+      (eq-eqb _ _ (sym xg ∙ e ∙ ap (λ (j : ℕ). getD (s .locations) j 0) xc))
+      ∙ ap (λ (j : ℕ). cond (guardHolds p s (guardOf p t)) (set out j t) out) (sym xk)
+
+  pub noted-taken : (c g k n : ℕ) → c ≡ componentOf p t → g ≡ source p t → g ≡ getD (s .locations) c 0 → k ≡ slotOf p t → n ≡ transitions p → getD out k 0 ≡ n
+      → guardHolds p s (guardOf p t) ≡ true → set out k t ≡ noted p s t out
+  noted-taken c g k n xc xg e xk xn h y = sym (noted-open c g k n xc xg e xk xn h ∙ ap (λ (b : Bool). cond b (set out k t) out) y)
+
+  pub noted-left : (c g k n : ℕ) → c ≡ componentOf p t → g ≡ source p t → g ≡ getD (s .locations) c 0 → k ≡ slotOf p t → n ≡ transitions p → getD out k 0 ≡ n
+      → guardHolds p s (guardOf p t) ≡ false → out ≡ noted p s t out
+  noted-left c g k n xc xg e xk xn h y = sym (noted-open c g k n xc xg e xk xn h ∙ ap (λ (b : Bool). cond b (set out k t) out) y)
+
+  pub noted-length : length out ≡ 256 → length (noted p s t out) ≡ 256
+  unfolding noted
+  noted-length h =
+      bool-cases (eqb (getD out (slotOf p t) 0) (transitions p) && ripe p s t)
+      (λ e. rw e (length-set out (slotOf p t) t ∙ h)) (λ e. rw e h)
+
+  -- an entry afterwards
+  noted-at : length out ≡ 256 → slotOf p t < 256 → (k : ℕ)
+      → getD (noted p s t out) k 0 ≡ cond (eqb (getD out k 0) (transitions p) && (eqb k (slotOf p t) && ripe p s t)) t (getD out k 0)
+  unfolding noted
+  noted-at h l k = bool-cases (eqb k (slotOf p t)) same other
+    where
+      same : eqb k (slotOf p t) ≡ true
+          → getD (cond (eqb (getD out (slotOf p t) 0) (transitions p) && ripe p s t) (set out (slotOf p t) t) out) k 0
+          ≡ cond (eqb (getD out k 0) (transitions p) && (eqb k (slotOf p t) && ripe p s t)) t (getD out k 0)
+      same e =
+          let q : k ≡ slotOf p t = eqb-true _ _ e in
+          subst (λ (j : ℕ). getD (cond (eqb (getD out (slotOf p t) 0) (transitions p) && ripe p s t) (set out (slotOf p t) t) out) j 0
+          ≡ cond (eqb (getD out j 0) (transitions p) && (eqb j (slotOf p t) && ripe p s t)) t (getD out j 0)) (sym q)
+          (rw (eqb-same (slotOf p t))
+          (bool-cases (eqb (getD out (slotOf p t) 0) (transitions p) && ripe p s t)
+          (λ b. rw b (getD-set-same out (slotOf p t) t 0 (subst (λ (n : ℕ). slotOf p t < n) (sym h) l))) (λ b. rw b refl)))
+
+      stays : (a b c : Bool) → c ≡ false → cond (a && (c && b)) t (getD out k 0) ≡ getD out k 0
+      stays true b c e = rw e refl
+      stays false b c e = refl
+
+      other : eqb k (slotOf p t) ≡ false
+          → getD (cond (eqb (getD out (slotOf p t) 0) (transitions p) && ripe p s t) (set out (slotOf p t) t) out) k 0
+          ≡ cond (eqb (getD out k 0) (transitions p) && (eqb k (slotOf p t) && ripe p s t)) t (getD out k 0)
+      other e =
+          bool-cases (eqb (getD out (slotOf p t) 0) (transitions p) && ripe p s t)
+          (λ b. rw b (getD-set-other out (slotOf p t) k t 0 (λ q. absurd-bool (eq-eqb _ _ q) e))) (λ b. rw b refl)
+          ∙ sym (stays (eqb (getD out k 0) (transitions p)) (ripe p s t) (eqb k (slotOf p t)) e)
+
+-- a transition is ready at its own slot alone, and there when it is ripe
+slot-back : (k a b : ℕ) → a ≡ k / 16 → b ≡ k % 16 → k ≡ 16 * a + b
+slot-back k a b x y = omega arith
+
+slot-high : (k a b : ℕ) → b < 16 → k ≡ 16 * a + b → a ≡ k / 16
+slot-high k a b h e = omega arith
+
+slot-low : (k a b : ℕ) → b < 16 → k ≡ 16 * a + b → b ≡ k % 16
+slot-low k a b h e = omega arith
+
+ready-is : (p : Plan) (s : State) (t k : ℕ) → portOf p t < 16 → ready p s (k / 16) (k % 16) t ≡ (eqb k (slotOf p t) && ripe p s t)
+unfolding ready ripe
+ready-is p s t k h =
+    same-test (ready p s (k / 16) (k % 16) t) (eqb k (slotOf p t) && ripe p s t)
+    (λ e.
+    let a = each _ e in
+    let c : componentOf p t ≡ k / 16 = eqb-true _ _ (a .0) in
+    both-and (eq-eqb k (slotOf p t) (slot-back k (componentOf p t) (portOf p t) c (eqb-true _ _ (a .1 .1 .0))))
+    (both-and (subst (λ (x : ℕ). eqb (source p t) (getD (s .locations) x 0) ≡ true) (sym c) (a .1 .0)) (a .1 .1 .1 .0)))
+    (λ e.
+    let a = and-both (eqb k (slotOf p t)) (ripe p s t) e in
+    let q : k ≡ slotOf p t = eqb-true _ _ (a .0) in
+    let c : componentOf p t ≡ k / 16 = slot-high k (componentOf p t) (portOf p t) h q in
+    let b = and-both (eqb (source p t) (getD (s .locations) (componentOf p t) 0)) (guardHolds p s (guardOf p t)) (a .1) in
+    all-of _ (
+      eq-eqb _ _ c,
+      (
+        subst (λ (x : ℕ). eqb (source p t) (getD (s .locations) x 0) ≡ true) c (b .0),
+        (eq-eqb _ _ (slot-low k (componentOf p t) (portOf p t) h q), (b .1, tt)),
+      ),
+    ))
+
+-- ---- the pass
+
+pub choices-none : (p : Plan) (s : State) → replicate 256 (transitions p) ≡ choicesBelow p s 0
+unfolding choicesBelow
+choices-none p s =
+    table-all 256 (replicate 256 (transitions p)) (λ k. lowestOr (transitions p) 0 (ready p s (k / 16) (k % 16)))
+    (length-replicate 256 (transitions p))
+    (λ k h. getD-replicate 256 k (transitions p) 0 h ∙ sym (or-none (transitions p) (ready p s (k / 16) (k % 16))))
+
+choices-length : (p : Plan) (s : State) (n : ℕ) → length (choicesBelow p s n) ≡ 256
+unfolding choicesBelow
+choices-length p s n = length-table 256 (λ k. lowestOr (transitions p) n (ready p s (k / 16) (k % 16)))
+
+slot-lt : (a b : ℕ) → a < 16 → b < 16 → 16 * a + b < 256
+slot-lt a b h l = omega arith
+
+choices-next : (p : Plan) (s : State) (t : ℕ) → planRefusal p ≡ 0 → t < transitions p → noted p s t (choicesBelow p s t) ≡ choicesBelow p s (suc t)
+unfolding choicesBelow
+choices-next p s t h l =
+    table-all 256 (noted p s t (choicesBelow p s t)) (λ k. lowestOr (transitions p) (suc t) (ready p s (k / 16) (k % 16)))
+    (noted-length p s t (choicesBelow p s t) (choices-length p s t)) entry
+  where
+    entry : (k : ℕ) → k < 256 → getD (noted p s t (choicesBelow p s t)) k 0 ≡ lowestOr (transitions p) (suc t) (ready p s (k / 16) (k % 16))
+    entry k m =
+        noted-at p s t (choicesBelow p s t) (choices-length p s t) (slot-lt _ _ (component-lt p h t l) (port-lt p h t l)) k
+        ∙ ap₂ (λ (x : ℕ) (b : Bool). cond (eqb x (transitions p) && b) t x)
+        (getD-table 256 (λ j. lowestOr (transitions p) t (ready p s (j / 16) (j % 16))) 0 k m) (sym (ready-is p s t k (port-lt p h t l)))
+        ∙ sym (or-next (transitions p) t (ready p s (k / 16) (k % 16)) l)
+
+pub choices-step : (p : Plan) (s : State) (t : ℕ) (out r : List ℕ) → planRefusal p ≡ 0 → t < transitions p → out ≡ choicesBelow p s t → r ≡ noted p s t out
+    → r ≡ choicesBelow p s (t + 1)
+choices-step p s t out r h l d e = e ∙ ap (noted p s t) d ∙ choices-next p s t h l ∙ ap (choicesBelow p s) (sym (add-one t))
+
+pub choices-all : (p : Plan) (s : State) → choicesBelow p s (transitions p) ≡ choiceTable p s
+unfolding choicesBelow choiceTable chosen
+choices-all p s =
+    table-same 256 (λ k. lowestOr (transitions p) (transitions p) (ready p s (k / 16) (k % 16))) (λ k. chosen p s (k / 16) (k % 16))
+    (λ k h. or-all (transitions p) (ready p s (k / 16) (k % 16)))
+
+-- ---- reading the table
+
+pub choice-at : (p : Plan) (s : State) (c q : ℕ) → c < 16 → q < 16 → getD (choiceTable p s) (16 * c + q) 0 ≡ chosen p s c q
+unfolding choiceTable
+choice-at p s c q h l =
+    getD-table 256 (λ k. chosen p s (k / 16) (k % 16)) 0 (16 * c + q) (slot-lt c q h l)
+    ∙ ap₂ (chosen p s) (sym (slot-high (16 * c + q) c q l refl)) (sym (slot-low (16 * c + q) c q l refl))

@@ -1,0 +1,4 @@
+pub mod ChoiceLaws
+pub mod MaskLaws
+pub mod PlanLaws
+pub mod PartLaws

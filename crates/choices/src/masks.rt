@@ -1,0 +1,177 @@
+// Which interactions are enabled, and which of those are not outranked, as 64-bit masks.
+use code::eval;
+use words::bits;
+use words::bytes;
+ghost use mathlib.Core.Path.{_≡_};
+ghost use mathlib.Core.Bool.{true, _&&_};
+ghost use Prim.Native.Nat.{ℕ, _+_, _*_, _^_, _≤_, _<_};
+ghost use lib.ListN.{length};
+ghost use Rattle.semantics.specs.Bytes.{bit, every, some-below, mask};
+ghost use Rattle.semantics.specs.Plan.{components, interactions, interactionAt, portIn, takesPart, below};
+ghost use Rattle.semantics.specs.Rules.{planRefusal};
+ghost use Rattle.semantics.specs.Move.{enabled};
+ghost use Rattle.lane.specs.Runs.{site};
+ghost use Rattle.choices.specs.Choices.{choiceTable, portReady, standing};
+
+// Where interaction i stands in the plan.
+pub fn interaction_at(plan: &[u8], i: usize) -> usize
+    requires { ⌜ planRefusal (now plan) ≡ 0 ⌝ }
+    requires { ⌜ i < interactions (now plan) ⌝ }
+    ensures { λ r. ⌜ (r ≡ interactionAt (now (plan .entry)) i) × (r + 24 ≤ length (now (plan .entry))) ⌝ }
+{
+    bytes::field(plan, 32) + 24 * i
+}
+
+// The port of component c in interaction i; 255 where it takes no part.
+pub fn port_in(plan: &[u8], i: usize, c: usize) -> usize
+    requires { ⌜ planRefusal (now plan) ≡ 0 ⌝ }
+    requires { ⌜ (i < interactions (now plan)) × (c < 16) ⌝ }
+    ensures { λ r. ⌜ (r ≡ portIn (now (plan .entry)) i c) × ((r ≡ 255 → ⊥) → r < 16) ⌝ }
+{
+    let at = interaction_at(plan, i);
+    bytes::wide(plan[at + c])
+}
+
+// Whether component c takes no part in interaction i, or has a transition for its port.
+fn port_ready(plan: &[u8], picks: &[u16; 256], i: usize, c: usize) -> bool
+    requires { ⌜ planRefusal (now plan) ≡ 0 ⌝ }
+    requires { ⌜ (i < interactions (now plan)) × (c < 16) ⌝ }
+    ensures { λ r. ⌜ r ≡ portReady (now (plan .entry)) (now (picks .entry)) i c ⌝ }
+{
+    let q = port_in(plan, i, c);
+    if q == 255 {
+        return true;
+    }
+    picks[16 * c + q] < bytes::u16_at(plan, 14)
+}
+
+// Whether each component below a count that takes part in interaction i has a transition for its port; one by one.
+fn few_ready(plan: &[u8], picks: &[u16; 256], i: usize, count: usize) -> bool
+    requires { ⌜ planRefusal (now plan) ≡ 0 ⌝ }
+    requires { ⌜ (i < interactions (now plan)) × (count ≤ 16) ⌝ }
+    ensures { λ r. ⌜ r ≡ every count (portReady (now (plan .entry)) (now (picks .entry)) i) ⌝ }
+{
+    let mut c = 0;
+    while c < count {
+        if !port_ready(plan, picks, i, c) {
+            return false;
+        }
+        c += 1;
+    }
+    true
+}
+
+// Bit 8 * c + 7 where component base + c takes part in interaction i: the byte 255, for no port, has its bit 7, and a port has not.
+fn part_bits(plan: &[u8], i: usize, base: usize) -> u64
+    requires { ⌜ planRefusal (now plan) ≡ 0 ⌝ }
+    requires { ⌜ (i < interactions (now plan)) × (base ≤ 8) ⌝ }
+    ensures { λ r. ⌜ ((c : ℕ) → c < 8 → takesPart (now (plan .entry)) i (base + c) ≡ true → bit r (8 * c + 7) ≡ true) ⌝ }
+{
+    let at = interaction_at(plan, i);
+    !bytes::u64_at(plan, at + base) & 0x8080_8080_8080_8080
+}
+
+// Whether each of the eight components from base on that takes part in interaction i has a transition for its port; those alone are visited.
+fn eight_ready(plan: &[u8], picks: &[u16; 256], i: usize, base: usize) -> bool
+    requires { ⌜ planRefusal (now plan) ≡ 0 ⌝ }
+    requires { ⌜ (i < interactions (now plan)) × (base ≤ 8) ⌝ }
+    ensures { λ r. ⌜ r ≡ every 8 (λ c. portReady (now (plan .entry)) (now (picks .entry)) i (base + c)) ⌝ }
+{
+    let mut left = part_bits(plan, i, base);
+    while left != 0 {
+        let c = bits::lowest_bit(left) >> 3;
+        if !port_ready(plan, picks, i, base + c) {
+            return false;
+        }
+        left = bits::without_lowest(left);
+    }
+    true
+}
+
+// Whether each component that takes part in interaction i has a transition for its port.
+fn parts_ready(plan: &[u8], picks: &[u16; 256], i: usize) -> bool
+    requires { ⌜ planRefusal (now plan) ≡ 0 ⌝ }
+    requires { ⌜ i < interactions (now plan) ⌝ }
+    ensures { λ r. ⌜ r ≡ every (components (now (plan .entry))) (portReady (now (plan .entry)) (now (picks .entry)) i) ⌝ }
+{
+    let count = bytes::field(plan, 10);
+    if count <= 8 {
+        return few_ready(plan, picks, i, count);
+    }
+    if !eight_ready(plan, picks, i, 0) {
+        return false;
+    }
+    eight_ready(plan, picks, i, 8)
+}
+
+// Whether interaction i is enabled; the ports before the guard.
+fn is_enabled(
+    plan: &[u8],
+    locations: &[u8; 16],
+    ports: &[u8; 16],
+    values: &[i32; 64],
+    picks: &[u16; 256],
+    i: usize,
+) -> bool
+    requires { ⌜ planRefusal (now plan) ≡ 0 ⌝ }
+    requires { ⌜ (i < interactions (now plan)) × (now picks ≡ choiceTable (now plan) (site (now locations) (now ports) (now values))) ⌝ }
+    ensures { λ r. ⌜ r ≡ enabled (now (plan .entry)) (site (now (locations .entry)) (now (ports .entry)) (now (values .entry))) i ⌝ }
+{
+    if !parts_ready(plan, picks, i) {
+        return false;
+    }
+    let at = interaction_at(plan, i);
+    eval::guard_holds(plan, locations, ports, values, at + 16)
+}
+
+// The enabled interactions, from the table of choices.
+pub fn enabled_mask<'a>(
+    plan: &[u8],
+    locations: &'a [u8; 16],
+    ports: &'a [u8; 16],
+    values: &'a [i32; 64],
+    picks: &[u16; 256],
+) -> u64
+    requires { ⌜ planRefusal (now plan) ≡ 0 ⌝ }
+    requires { ⌜ now picks ≡ choiceTable (now plan) (site (now locations) (now ports) (now values)) ⌝ }
+    ensures { λ r. ⌜ (r ≡ mask (interactions (now (plan .entry))) (enabled (now (plan .entry)) (site (now (locations .entry)) (now (ports .entry)) (now (values .entry))))) × (r < 2 ^ interactions (now (plan .entry))) ⌝ }
+{
+    let count = bytes::field(plan, 16);
+    let mut out = 0;
+    let mut i = 0;
+    while i < count {
+        if is_enabled(plan, locations, ports, values, picks, i) {
+            out = bits::with_bit(out, i);
+        }
+        i += 1;
+    }
+    out
+}
+
+// Whether an interaction of the mask lies above interaction i.
+fn is_outranked(plan: &[u8], en: u64, i: usize) -> bool
+    requires { ⌜ planRefusal (now plan) ≡ 0 ⌝ }
+    requires { ⌜ i < interactions (now plan) ⌝ }
+    ensures { λ r. ⌜ r ≡ some-below (interactions (now (plan .entry))) (λ j. below (now (plan .entry)) i j && bit en j) ⌝ }
+{
+    let at = bytes::field(plan, 34) + 8 * i;
+    bits::meets(bytes::u64_at(plan, at), en)
+}
+
+// The interactions of the mask above which none of the mask lies; the bits of the mask from the lowest on.
+pub fn eligible_mask(plan: &[u8], en: u64) -> u64
+    requires { ⌜ planRefusal (now plan) ≡ 0 ⌝ }
+    requires { ⌜ en < 2 ^ interactions (now plan) ⌝ }
+    ensures { λ r. ⌜ r ≡ standing (now (plan .entry)) en ⌝ }
+{
+    let mut left = en;
+    let mut out = 0;
+    while left != 0 {
+        let i = bits::lowest_bit(left);
+        if !is_outranked(plan, en, i) {
+            out = bits::with_bit(out, i);
+        }
+        left = bits::without_lowest(left);
+    }
+    out
+}

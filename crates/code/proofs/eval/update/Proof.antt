@@ -1,0 +1,127 @@
+use mathlib.Core.List.{[]}
+use mathlib.Core.Path.{_≡_, refl, sym, ap, _∙_}
+use Prim.Native.Nat.{_+_, _*_, _-_, _≤_}
+use native.Mathlib.Omega.{arith}
+use lib.IntN.{pos}
+use lib.ListN.{length}
+use borrow.Author.Needs.{needs}
+use Rattle.semantics.proofs.Spans.{acted-long}
+use Rattle.semantics.specs.Code.{State, Machine, ran, acted}
+use Rattle.code.specs.Held.{site, held, machine}
+use Rattle.code.proofs.Sections.{laid-accepted}
+use Rattle.code.proofs.TakenSpans.{word-inside}
+use Rattle.code.proofs.Turns.{decoded, turn-fits, turned}
+use Rattle.code.proofs.eval.update.Statement.{statement}
+use Rattle.code.proofs.eval.update.Tie as tie
+
+abbrev Inv-loop : tie.InvT-loop
+Inv-loop plan values₀ start size base stack₀ m₀ i₀ values stack m i = (i ≤ size) × (length stack ≡ 8)
+    × ((s : State) → s .values ≡ values₀ → machine stack (m .depth) (m .value) values ≡ ran plan s start i)
+
+abbrev μ-loop : tie.MeasureT-loop
+μ-loop plan values₀ start size base stack₀ m₀ i₀ values stack m i = size - i
+
+-- the word lies in the slice
+inside : (c : tie.In-loop Inv-loop μ-loop)
+    → c .before .before .field .result + 2 * (c .before .before .before .before .args .start + c .before .loop .i) + 2
+    ≤ length (c .before .before .before .before .args .plan .now)
+inside c =
+    let f = c .before .before in
+    let s = f .before .before in
+    omega (arith, f .field .ensures .0, word-inside _ (laid-accepted _ (s .pre .0)) _ _ (s .pre .1 .0) (c .before .loop .i) (c .loop-test .taken))
+
+field-requires : tie.Need-field-requires Inv-loop μ-loop
+field-requires c κs = omega (arith, laid-accepted _ (c .before .pre .0) .long)
+
+loop-holds : tie.Need-loop-holds Inv-loop μ-loop
+unfolding held ran
+loop-holds c = (omega arith, refl, λ s e. ap (λ vs. machine [] 0 (pos 0) vs) (sym e))
+
+add-u16-at : tie.Need-add-u16-at Inv-loop μ-loop
+add-u16-at c = omega (arith, inside c)
+
+mul-u16-at : tie.Need-mul-u16-at Inv-loop μ-loop
+mul-u16-at c = omega (arith, inside c)
+
+add-u16-at-2 : tie.Need-add-u16-at-2 Inv-loop μ-loop
+add-u16-at-2 c = omega (arith, inside c)
+
+u16-at-requires : tie.Need-u16-at-requires Inv-loop μ-loop
+u16-at-requires c κs = inside c
+
+kind-requires : tie.Need-kind-requires Inv-loop μ-loop
+kind-requires c κs = search needs
+
+operand-requires : tie.Need-operand-requires Inv-loop μ-loop
+operand-requires c κs = search needs
+
+step-requires : tie.Need-step-requires Inv-loop μ-loop
+step-requires c κs =
+    let d = c .before in
+    let u = d .before .before .before in
+    let o = u .before in
+    let t = o .before in
+    let f = t .before in
+    let s = f .before .before in (
+      (
+        c .operand .ensures .1,
+        turn-fits _ (laid-accepted _ (s .pre .0)) _ _ (s .pre .1 .0) (site [] [] (s .args .values .now)) (t .loop .i) _ _ _ _ _
+            (decoded _ _ _ _ _ _ (f .field .ensures .0) (u .u16-at .ensures) (d .kind .ensures .0) (c .operand .ensures .0))
+            (t .loop .inv .2 (site [] [] (s .args .values .now)) refl) (o .loop-test .taken),
+      ),
+      t .loop .inv .1,
+    )
+
+add-i : tie.Need-add-i Inv-loop μ-loop
+add-i c = omega arith
+
+loop-less : tie.Need-loop-less Inv-loop μ-loop
+loop-less c = omega arith
+
+loop-again : tie.Need-loop-again Inv-loop μ-loop
+loop-again c =
+    let n = c .before in
+    let d = n .before in
+    let u = d .before .before .before in
+    let o = u .before in
+    let t = o .before in
+    let f = t .before in (
+      omega arith,
+      c .step .ensures .1,
+      λ s e. turned _ s _ _ _ _ _
+          (decoded _ _ _ _ _ _ (f .field .ensures .0) (u .u16-at .ensures) (d .kind .ensures .0) (n .operand .ensures .0))
+          (t .loop .inv .2 s e) (c .step .ensures .0 s),
+    )
+
+returns : tie.Need-returns Inv-loop μ-loop
+unfolding acted
+returns c =
+    let t = c .before in
+    let s = t .before .before .before in
+    let q : t .loop .i ≡ s .args .size = omega arith in
+    let r : (x : State) → x .values ≡ s .args .values .now → t .loop .values ≡ ran (s .args .plan .now) x (s .args .start) (s .args .size) .values
+    = λ x e. ap (λ (m : Machine). m .values) (rw q at (t .loop .inv .2 x e)) in (
+      r,
+      ap length (r (site [] [] (s .args .values .now)) refl)
+          ∙ acted-long (s .args .plan .now) (site [] [] (s .args .values .now)) (record { start = s .args .start; size = s .args .size }) ∙ s .pre .1 .1,
+    )
+
+pub update-spec : {M : Type 1} → statement M
+update-spec =
+    tie.close
+    (tie.spec
+    Inv-loop
+    μ-loop
+    field-requires
+    loop-holds
+    add-u16-at
+    mul-u16-at
+    add-u16-at-2
+    u16-at-requires
+    kind-requires
+    operand-requires
+    step-requires
+    add-i
+    loop-less
+    loop-again
+    returns)

@@ -1,0 +1,116 @@
+-- The walk over a row that skips what stands above a number tried, and what it shows of all the rows together.
+use mathlib.Core.Path.{_≡_, refl, sym, ap, ap₂, _∙_, subst}
+use Prim.Native.Nat.{ℕ, zero, suc, _-_, _^_, _≤_, _<_}
+use native.Mathlib.Nat.{le-refl, le-trans, lt-of-le-of-lt, not-suc-le-zero}
+use native.Mathlib.Omega.{arith}
+use mathlib.Core.Bool.{Bool, true, false, not, _&&_, _||_}
+use lib.Dec.{ltb, eqb}
+use lib.Bits.{bitAnd, and-le-l, and-le-r}
+use Rattle.semantics.specs.Bytes.{implies, every, bit, mask}
+use Rattle.semantics.specs.Plan.{Plan, interactions, rankRow}
+use Rattle.semantics.proofs.Basics.{bool-cases, absurd-bool, and-both, implies-yes, implies-at, all-of, every-at, every-all, ltb-true, ltb-false, eqb-true}
+use Rattle.semantics.proofs.Masks.{bit-zero, bit-mask, mask-lt}
+use Rattle.words.proofs.BitLaws.{bit-and, bit-not, bits-same, bit-above}
+use Rattle.tables.specs.RankRow.{covers, closed, rowOk, Reached, Told, Passed}
+use Rattle.tables.proofs.RankRows.{bounded-at}
+
+-- a & !b
+pub bit-without : (a b k : ℕ) → a < 2 ^ 64 → b < 2 ^ 64 → bit (bitAnd a (2 ^ 64 - 1 - b)) k ≡ (bit a k && not (bit b k))
+bit-without a b k h l =
+    bit-and a (2 ^ 64 - 1 - b) k
+    ∙ bool-cases (ltb k 64) (λ t. ap (λ (x : Bool). bit a k && x) (bit-not 64 b k l (ltb-true k 64 t)))
+    (λ f. let z : bit a k ≡ false = bit-above 64 a k h (ltb-false k 64 f) in
+    ap (λ (x : Bool). x && bit (2 ^ 64 - 1 - b) k) z ∙ sym (ap (λ (x : Bool). x && not (bit b k)) z))
+
+-- ---- one row
+
+-- what is left to try of a row
+pub record Left (p : Plan) (row left : ℕ) : Type 0 where
+  pub small : left ≤ row
+  pub inside : (k : ℕ) → bit left k ≡ true → bit row k ≡ true
+  pub passed : (k : ℕ) → bit left k ≡ false → bit row k ≡ true → Reached p row k
+
+pub left-start : (p : Plan) (row : ℕ) → Left p row row
+left-start p row = record { small = le-refl row; inside = λ k b. b; passed = λ k f t. absurd (absurd-bool t f) }
+
+skipped : (l e a : Bool) → ((l && not e) && not a) ≡ false → l ≡ true → (e || a) ≡ false → ⊥
+skipped true true a f t z = absurd-bool refl z
+skipped true false true f t z = absurd-bool refl z
+skipped true false false f t z = absurd-bool refl f
+skipped false e a f t z = absurd-bool t refl
+
+-- number j was tried, and is left out with what stands above it
+pub left-next : (p : Plan) (row left j : ℕ) → Left p row left → j < 64 → bit row j ≡ true → covers p row j ≡ true → (next : ℕ) → next ≤ left
+    → ((k : ℕ) → bit next k ≡ ((bit left k && not (eqb k j)) && not (bit (rankRow p j) k))) → Left p row next
+left-next p row left j l s b v next h e =
+    record {
+      small = le-trans h (l .small);
+      inside = λ k t. l .inside k (and-both (bit left k) (not (eqb k j)) (and-both (bit left k && not (eqb k j)) (not (bit (rankRow p j) k)) (sym (e k) ∙ t) .0) .0);
+      passed = λ k f t. bool-cases (bit left k)
+          (λ y. bool-cases (eqb k j || bit (rankRow p j) k) (λ z. record { via = j; small = s; named = b; covered = v; there = z })
+          (λ z. absurd (skipped (bit left k) (eqb k j) (bit (rankRow p j) k) (sym (e k) ∙ f) y z)))
+          (λ n. l .passed k n t);
+    }
+
+pub left-done : (p : Plan) (row left : ℕ) → Left p row left → left ≡ 0 → Told p row
+left-done p row left l e k t = l .passed k (ap (λ (m : ℕ). bit m k) e ∙ bit-zero k) t
+
+-- a closed row passes each test
+pub closed-covers : (p : Plan) (row : ℕ) → closed p row ≡ true → (j : ℕ) → j < 64 → bit row j ≡ true → covers p row j ≡ true
+unfolding closed
+closed-covers p row e j l b = implies-at (bit row j) (covers p row j) (every-at 64 (λ y. implies (bit row y) (covers p row y)) e j l) b
+
+-- ---- all the rows
+
+kept : (x y : Bool) → implies x y ≡ true → (x && y) ≡ x
+unfolding implies
+kept true y e = e
+kept false y e = refl
+
+-- a row as a number of 64 bits
+abbrev low : ℕ → ℕ
+low m = mask 64 (bit m)
+
+-- a row inside another that has a number more is less
+proper : (a b j : ℕ) → j < 64 → every 64 (λ k. implies (bit a k) (bit b k)) ≡ true → bit b j ≡ true → bit a j ≡ false → low a < low b
+proper a b j l s t f =
+    let e : bitAnd (low a) (low b) ≡ low a =
+    bits-same 64 (bitAnd (low a) (low b)) (low a) (lt-of-le-of-lt (and-le-l (low a) (low b)) (mask-lt 64 (bit a))) (mask-lt 64 (bit a))
+    (λ k m. bit-and (low a) (low b) k ∙ ap₂ _&&_ (bit-mask 64 (bit a) k m) (bit-mask 64 (bit b) k m)
+    ∙ kept (bit a k) (bit b k) (every-at 64 (λ x. implies (bit a x) (bit b x)) s k m) ∙ sym (bit-mask 64 (bit a) k m)) in
+    let h : low a ≤ low b = subst (λ (x : ℕ). x ≤ low b) e (and-le-r (low a) (low b)) in
+    let n : low a ≡ low b → ⊥ =
+    λ q. absurd-bool t (sym (bit-mask 64 (bit b) j l) ∙ ap (λ (x : ℕ). bit x j) (sym q) ∙ bit-mask 64 (bit a) j l ∙ f) in
+    omega arith
+
+module _ (p : Plan) (all : (i : ℕ) → i < interactions p → Passed p i) where
+  -- the row of a number that is reached lies in the row, where the lesser rows are closed
+  reached-covers : (i : ℕ) → i < interactions p
+      → ((j : ℕ) → j < interactions p → low (rankRow p j) < low (rankRow p i) → closed p (rankRow p j) ≡ true)
+      → (k : ℕ) → k < 64 → Reached p (rankRow p i) k → covers p (rankRow p i) k ≡ true
+  unfolding covers
+  reached-covers i h lesser k m r =
+      bool-cases (eqb k (r .via)) (λ z. subst (λ (x : ℕ). covers p (rankRow p i) x ≡ true) (sym (eqb-true k (r .via) z)) (r .covered))
+      (λ z. let j : ℕ = r .via in
+      let d : bit (rankRow p j) k ≡ true = ap (λ (x : Bool). x || bit (rankRow p j) k) (sym z) ∙ r .there in
+      let u : j < interactions p = bounded-at p (rankRow p i) (all i h .within) j (r .small) (r .named) in
+      let less : low (rankRow p j) < low (rankRow p i) = proper (rankRow p j) (rankRow p i) j (r .small) (r .covered) (r .named) (all j u .strict) in
+      let c : covers p (rankRow p j) k ≡ true = closed-covers p (rankRow p j) (lesser j u less) k m d in
+      every-all 64 (λ x. implies (bit (rankRow p k) x) (bit (rankRow p i) x))
+      (λ x q. implies-yes (bit (rankRow p k) x) (bit (rankRow p i) x)
+      (λ t. implies-at (bit (rankRow p j) x) (bit (rankRow p i) x) (every-at 64 (λ y. implies (bit (rankRow p j) y) (bit (rankRow p i) y)) (r .covered) x q)
+      (implies-at (bit (rankRow p k) x) (bit (rankRow p j) x) (every-at 64 (λ y. implies (bit (rankRow p k) y) (bit (rankRow p j) y)) c x q) t))))
+
+  all-closed : (n i : ℕ) → i < interactions p → low (rankRow p i) < n → closed p (rankRow p i) ≡ true
+  unfolding closed
+  all-closed zero i h l = absurd (not-suc-le-zero l)
+  all-closed (suc n) i h l =
+      every-all 64 (λ k. implies (bit (rankRow p i) k) (covers p (rankRow p i) k))
+      (λ k m. implies-yes (bit (rankRow p i) k) (covers p (rankRow p i) k)
+      (λ b. reached-covers i h (λ j u less. all-closed n j u (omega arith)) k m (all i h .told k b)))
+
+  pub rows-passed : every (interactions p) (rowOk p) ≡ true
+  unfolding rowOk
+  rows-passed =
+      every-all (interactions p) (rowOk p)
+      (λ i h. all-of _ (all i h .within, (ap not (all i h .strict), (all-closed (suc (low (rankRow p i))) i h (le-refl (suc (low (rankRow p i)))), tt))))
