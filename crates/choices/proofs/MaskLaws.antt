@@ -48,10 +48,6 @@ pub every-none : (f : ℕ → Bool) → every 0 f ≡ true
 unfolding every
 every-none f = refl
 
-pub every-next : (n : ℕ) (f : ℕ → Bool) → every n f ≡ true → f n ≡ true → every (n + 1) f ≡ true
-unfolding every
-every-next n f a b = subst (λ (k : ℕ). every k f ≡ true) (sym (add-one n)) (both-and a b)
-
 pub every-fails : (n : ℕ) (f : ℕ → Bool) (k : ℕ) → k < n → f k ≡ false → false ≡ every n f
 every-fails n f k h e = bool-cases (every n f) (λ y. absurd-bool (every-at n f y k h) e) sym
 

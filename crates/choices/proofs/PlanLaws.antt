@@ -1,8 +1,7 @@
 -- Laws of an accepted plan: where its fields lie, how large they are, and that its spans passed the checker.
 use mathlib.Core.Path.{_≡_, ap}
-use Prim.Native.Nat.{ℕ, suc, _+_, _*_, _≤_, _<_}
-use native.Mathlib.Nat.{le-trans, mul-le-mul-left, mul-suc}
-use native.Mathlib.Omega.{arith}
+use Prim.Native.Nat.{ℕ, _+_, _*_, _≤_, _<_}
+use native.Mathlib.Nat.{le-trans}
 use mathlib.Core.Logic.{_⊎_, inl, inr}
 use mathlib.Core.Bool.{true, not}
 use lib.ListN.{length}
@@ -13,29 +12,23 @@ use Rattle.semantics.proofs.Basics.{bool-cases, each, leb-true, ltb-true, eqb-t
 use Rattle.semantics.proofs.AcceptedPlan.{accepted-plan}
 use Rattle.semantics.proofs.Sound.{Part, part}
 use Rattle.code.proofs.Sections.{laid-accepted}
+use Rattle.lane.proofs.Rows.{row-in}
 pub use Rattle.code.proofs.TakenSpans.{guard-taken, action-taken, interaction-guard-taken, transfer-taken, proposition-taken}
-
--- row k of a section of n rows
-row-in : (at size n k end : ℕ) → at + size * n ≤ end → k < n → at + size * k + size ≤ end
-row-in at size n k end h l =
-    let a : size * suc k ≤ size * n = mul-le-mul-left size l in
-    let b : size * suc k ≡ size * k + size = mul-suc size k in
-    omega arith
 
 module _ (p : Plan) (e : planRefusal p ≡ 0) where
   -- ---- places
 
   pub transition-inside : (t : ℕ) → t < transitions p → transitionAt p t + 12 ≤ length p
-  transition-inside t h = row-in (section p 2) 12 (transitions p) t (length p) (laid-accepted p e .transition-in) h
+  transition-inside t h = row-in (section p 2) 12 (transitions p) t (length p) h (laid-accepted p e .transition-in)
 
   pub interaction-inside : (i : ℕ) → i < interactions p → interactionAt p i + 24 ≤ length p
-  interaction-inside i h = row-in (section p 3) 24 (interactions p) i (length p) (laid-accepted p e .interaction-in) h
+  interaction-inside i h = row-in (section p 3) 24 (interactions p) i (length p) h (laid-accepted p e .interaction-in)
 
   pub rank-inside : (i : ℕ) → i < interactions p → section p 4 + 8 * i + 8 ≤ length p
-  rank-inside i h = row-in (section p 4) 8 (interactions p) i (length p) (laid-accepted p e .rank-in) h
+  rank-inside i h = row-in (section p 4) 8 (interactions p) i (length p) h (laid-accepted p e .rank-in)
 
   pub proposition-inside : (k : ℕ) → k < propositions p → section p 5 + 4 * k + 4 ≤ length p
-  proposition-inside k h = row-in (section p 5) 4 (propositions p) k (length p) (laid-accepted p e .proposition-in) h
+  proposition-inside k h = row-in (section p 5) 4 (propositions p) k (length p) h (laid-accepted p e .proposition-in)
 
   -- ---- ranges
 

@@ -8,12 +8,12 @@ use mathlib.Core.List.{List, [], _∷_, _++_, append-assoc, append-nil}
 use lib.ListN.{length, getD, take, length-append, take-append-drop}
 use lib.Seq.{take-suc, length-take-le}
 use lib.IntN.{ℤ, pos}
+use Rattle.semantics.proofs.Images.{length-valueBytes}
 use Rattle.semantics.specs.Bytes.{leBytes}
 use Rattle.semantics.specs.Signed.{residue}
 use Rattle.semantics.specs.Plan.{Plan}
 use Rattle.semantics.specs.Move.{Configuration}
 use Rattle.semantics.specs.Image.{head, valueBytes, image, withMarks}
-use Rattle.semantics.proofs.Masks.{length-leBytes}
 use Rattle.words.specs.Splice.{splice}
 use Rattle.words.proofs.SpliceLaws.{splice-splice, splice-all, splice-next}
 
@@ -23,15 +23,6 @@ unfolding splice
 splice-none l k = rw (append-nil (take k l), add-zero k) (take-append-drop k l)
 
 -- ---- values
-
-pub length-values : (vs : List ℤ) → length (valueBytes vs) ≡ 4 * length vs
-unfolding valueBytes
-length-values [] = refl
-length-values (v ∷ vs) =
-    let e = length-append (leBytes 4 (residue v)) (valueBytes vs) in
-    let n = length-leBytes 4 (residue v) in
-    let r = length-values vs in
-    omega arith
 
 values-append : (us vs : List ℤ) → valueBytes (us ++ vs) ≡ valueBytes us ++ valueBytes vs
 unfolding valueBytes
@@ -48,7 +39,7 @@ pub values-turn : (l : List ℕ) (at : ℕ) (vs : List ℤ) (i : ℕ) {m : List 
     → splice m (at + 4 * i) (leBytes 4 (residue (getD vs i (pos 0)))) ≡ splice l at (valueBytes (take (i + 1) vs))
 values-turn l at vs i h k e =
     let z = getD vs i (pos 0) in
-    let n : length (valueBytes (take i vs)) ≡ 4 * i = length-values (take i vs) ∙ ap (λ (j : ℕ). 4 * j) (length-take-le i vs (omega arith)) in
+    let n : length (valueBytes (take i vs)) ≡ 4 * i = length-valueBytes (take i vs) ∙ ap (λ (j : ℕ). 4 * j) (length-take-le i vs (omega arith)) in
     let t : valueBytes (take i vs) ++ leBytes 4 (residue z) ≡ valueBytes (take (i + 1) vs) =
     ap (λ (x : List ℕ). valueBytes (take i vs) ++ x) (sym (values-one z)) ∙ sym (values-append (take i vs) (z ∷ []))
     ∙ ap valueBytes (sym (take-suc vs i (pos 0) k)) ∙ ap (λ (j : ℕ). valueBytes (take j vs)) (sym (add-one i)) in
@@ -74,7 +65,7 @@ written p c m l {w₁ = w₁} {w₂ = w₂} {w₃ = w₃} {w₄ = w₄} {w₅ = 
     let v = valueBytes (c .state .values) in
     let nd : length d ≡ 40 = length-append b (c .state .locations) ∙ ap (λ (n : ℕ). 24 + n) hl in
     let nf : length f ≡ 56 = length-append d (c .state .lastPorts) ∙ ap₂ _+_ nd hp in
-    let nv : length (f ++ v) ≡ 312 = length-append f v ∙ ap₂ _+_ nf (length-values (c .state .values) ∙ ap (λ (n : ℕ). 4 * n) hv) in
+    let nv : length (f ++ v) ≡ 312 = length-append f v ∙ ap₂ _+_ nf (length-valueBytes (c .state .values) ∙ ap (λ (n : ℕ). 4 * n) hv) in
     let r₂ = splice-next l (head p (c .oracle)) (leBytes 8 m) 16 w₁ w₂ refl (omega arith) e₁ e₂ in
     let r₃ = splice-next l b (c .state .locations) 24 w₂ w₃ refl (omega arith) r₂ e₃ in
     let r₄ = splice-next l d (c .state .lastPorts) 40 w₃ w₄ nd (omega arith) r₃ e₄ in

@@ -51,7 +51,7 @@ value-at (x ∷ xs) (suc v) w h =
     ∙ ap signed (u32-past (leBytes 4 (residue x)) (valueBytes xs) 4 (4 * v) (length-leBytes 4 (residue x)))
     ∙ value-at xs v (record { word-at = λ k. w .word-at (suc k) }) (le-of-suc-le-suc h)
 
-length-valueBytes : (vs : List ℤ) → length (valueBytes vs) ≡ 4 * length vs
+pub length-valueBytes : (vs : List ℤ) → length (valueBytes vs) ≡ 4 * length vs
 unfolding valueBytes
 length-valueBytes [] = refl
 length-valueBytes (x ∷ xs) =

@@ -1,4 +1,5 @@
-use Rattle.choices.proofs.MaskLaws.{every-none, every-next, every-fails}
+use Rattle.words.proofs.TestLaws.{every-next}
+use Rattle.choices.proofs.MaskLaws.{every-none, every-fails}
 use Rattle.choices.specs.Choices.{portReady}
 use Rattle.semantics.proofs.Basics.{not-yes, not-no}
 use Rattle.semantics.specs.Bytes.{every}
