@@ -29,7 +29,7 @@ enum yard_kind {
     YARD_REFUSED = 5    /* number: one of enum yard_refusal; no byte changes */
 };
 
-/* Why a call was refused. The lowest number that applies is the answer. */
+/* Why a call was refused. The first that applies, in the order of this list, is the answer. */
 enum yard_refusal {
     YARD_BAD_HEAD = 1,        /* plan: fewer than 48 bytes, wrong letters, or bytes 42-47 not zero */
     YARD_BAD_COUNT = 2,       /* plan: a count or the first oracle state outside its range */

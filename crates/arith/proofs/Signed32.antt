@@ -59,11 +59,6 @@ word-in z e = subst (λ (x : ℤ). mag x < 2147483648) e (wrap-in z)
 
 -- ---- the bits
 
-pub residue-below : (z : ℤ) → residue z < 4294967296
-unfolding residue
-residue-below (pos n) = omega arith
-residue-below (negsuc n) = omega arith
-
 -- the code's bits of a number in range are those that store it
 pub residue-ofZ : (z : ℤ) → mag z < 2147483648 → residue z ≡ ofZ w32 z
 unfolding residue

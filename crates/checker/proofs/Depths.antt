@@ -1,4 +1,5 @@
 -- The depth that the rules of a span count, as the checker holds it: 99 where a rule is broken.
+use Rattle.words.proofs.TestLaws.{first-fails, second-fails, third-decides, rest-decides}
 use mathlib.Core.Path.{_≡_, refl, sym, ap, _∙_, subst}
 use Prim.Native.Nat.{ℕ, suc, _+_, _-_, _≤_, _<_}
 use native.Mathlib.Nat.{lt-irrefl, le-trans}
@@ -10,25 +11,24 @@ use lib.ListN.{List·getD-eq-default}
 use lib.Dec.{leb, eqb}
 use Rattle.semantics.specs.Bytes.{allOf}
 use Rattle.semantics.specs.Plan.{Plan, Span, codeWords, word}
-use Rattle.semantics.specs.Code.{unknown, instruction, decode, Role, allowed, shifted, deeper, depth, finalDepth, endsAt, spanOk}
+use Rattle.semantics.specs.Code.{unknown, instruction, decode, Role, allowed, depthAfter, deeper, depth, finalDepth, endsAt, spanOk}
 use Rattle.semantics.proofs.Basics.{le-leb, lt-leb, eq-eqb, ne-eqb}
 use Rattle.semantics.proofs.Spans.{depth-before, depth-low}
 use Rattle.checker.specs.Depth.{broken, number, capped}
-use Rattle.checker.proofs.Tests.{first-fails, second-fails, third-decides, rest-decides}
 
 -- ---- one word
 
-pub shift-no : (need give d : ℕ) → capped broken ≡ number (shifted false need give d)
-unfolding number capped shifted allOf
-shift-no need give d = refl
+pub depth-after-no : (need give d : ℕ) → capped broken ≡ number (depthAfter false need give d)
+unfolding number capped depthAfter allOf
+depth-after-no need give d = refl
 
-pub shift-short : (need give d : ℕ) → d < need → capped broken ≡ number (shifted true need give d)
-unfolding number capped shifted allOf
-shift-short need give d h = rw (lt-leb need d h)
+pub depth-after-short : (need give d : ℕ) → d < need → capped broken ≡ number (depthAfter true need give d)
+unfolding number capped depthAfter allOf
+depth-after-short need give d h = rw (lt-leb need d h)
 
-pub shift-enough : (need give d : ℕ) → need ≤ d → capped (d - need + give) ≡ number (shifted true need give d)
-unfolding number capped shifted allOf
-shift-enough need give d h = rw (le-leb need d h) (by-room (leb (d - need + give) 8))
+pub depth-after-enough : (need give d : ℕ) → need ≤ d → capped (d - need + give) ≡ number (depthAfter true need give d)
+unfolding number capped depthAfter allOf
+depth-after-enough need give d h = rw (le-leb need d h) (by-room (leb (d - need + give) 8))
   where
     by-room : (b : Bool) → cond b (d - need + give) broken ≡ number (cond (b && true) (some (d - need + give)) none)
     by-room true = refl
@@ -36,7 +36,7 @@ shift-enough need give d h = rw (le-leb need d h) (by-room (leb (d - need + give
 
 -- kinds past 6 break the rules
 pub kind-past : (p : Plan) (r : Role) (names : ℕ → Bool) (k n d : ℕ) → 7 ≤ k → capped broken ≡ number (deeper p r names (instruction k n) (some d))
-unfolding instruction deeper allowed number capped shifted allOf
+unfolding instruction deeper allowed number capped depthAfter allOf
 kind-past p r names k n d h = rw (List·getD-eq-default _ unknown h)
 
 -- ---- word by word
@@ -99,7 +99,7 @@ module _ (p : Plan) (r : Role) (names : ℕ → Bool) (k i : ℕ) where
 module _ (p : Plan) (r : Role) (names : ℕ → Bool) (g : Span) where
   pub span-long : 64 < g .size → false ≡ spanOk p r names g
   unfolding spanOk
-  span-long h = first-fails _ (lt-leb (g .size) 64 h)
+  span-long h = sym (first-fails _ _ (lt-leb (g .size) 64 h))
 
   pub span-over : g .size ≤ 64 → codeWords p < g .start + g .size → false ≡ spanOk p r names g
   unfolding spanOk

@@ -1,6 +1,6 @@
 // The checker of a span: which words may stand in it, and how deep the stack is after each.
 ghost use mathlib.Core.Path.{_≡_};
-ghost use Prim.Native.Nat.{_+_, _*_, _/_, _%_, _≤_, _<_};
+ghost use Prim.Native.Nat.{_+_, _/_, _%_, _≤_, _<_};
 ghost use mathlib.Core.Bool.{cond, _||_};
 ghost use mathlib.Core.List.{[], _∷_};
 ghost use mathlib.Core.Option.{some};
@@ -8,10 +8,12 @@ ghost use lib.ListN.{length};
 ghost use lib.Dec.{ltb, eqb};
 ghost use Rattle.semantics.specs.Bytes.{bit, allOf};
 ghost use Rattle.semantics.specs.Plan.{noPort, components, codeWords, locations, ports, spanAt};
-ghost use Rattle.semantics.specs.Code.{instruction, decode, operatorPops, operatorPushes, shifted, deeper, depth, finalDepth, endsAt, spanOk};
-ghost use Rattle.code.specs.Laid.{Laid};
+ghost use Rattle.semantics.specs.Code.{instruction, decode, operatorPops, operatorPushes, depthAfter, deeper, depth, finalDepth, endsAt, spanOk};
+ghost use Rattle.layout.specs.Laid.{Laid};
 ghost use Rattle.checker.specs.Depth.{capped, number, roleOf, Tables};
 use code::word;
+use layout::header;
+use layout::records;
 use words::bits;
 use words::bytes;
 
@@ -39,10 +41,10 @@ fn may_ask_place(plan: &[u8], looks: bool, n: usize) -> bool
         return false;
     }
     let c = n >> 8;
-    if c >= bytes::field(plan, 10) {
+    if c >= header::components(plan) {
         return false;
     }
-    (n & 255) < bytes::wide(plan[bytes::field(plan, 26) + 4 * c])
+    (n & 255) < bytes::wide(plan[records::component_at(plan, c)])
 }
 
 // Whether kind 5 may ask for the last port n % 256 of component n / 256, or for none yet.
@@ -54,17 +56,17 @@ fn may_ask_port(plan: &[u8], looks: bool, n: usize) -> bool
         return false;
     }
     let c = n >> 8;
-    if c >= bytes::field(plan, 10) {
+    if c >= header::components(plan) {
         return false;
     }
     let q = n & 255;
-    (q == 255) | (q < bytes::wide(plan[bytes::field(plan, 26) + 4 * c + 2]))
+    (q == 255) | (q < bytes::wide(plan[records::component_at(plan, c) + records::PORTS]))
 }
 
 // The depth after a word that is allowed or not, needs so many values and gives so many.
-fn shift(ok: bool, need: usize, give: usize, d: usize) -> usize
+fn depth_after(ok: bool, need: usize, give: usize, d: usize) -> usize
     requires { ⌜ (d ≤ 8) × (give < 256) ⌝ }
-    ensures { λ r. ⌜ capped r ≡ number (shifted ok need give d) ⌝ }
+    ensures { λ r. ⌜ capped r ≡ number (depthAfter ok need give d) ⌝ }
 {
     if !ok {
         return BROKEN;
@@ -78,12 +80,12 @@ fn shift(ok: bool, need: usize, give: usize, d: usize) -> usize
 // The depth after operator n.
 fn operator(pops: &[u8; 8], pushes: &[u8; 8], n: usize, d: usize) -> usize
     requires { ⌜ (d ≤ 8) × Tables (now pops) (now pushes) ⌝ }
-    ensures { λ r. ⌜ capped r ≡ number (shifted (ltb n 8) (operatorPops n) (operatorPushes n) d) ⌝ }
+    ensures { λ r. ⌜ capped r ≡ number (depthAfter (ltb n 8) (operatorPops n) (operatorPushes n) d) ⌝ }
 {
     if n >= 8 {
         return BROKEN;
     }
-    shift(true, bytes::wide(pops[n]), bytes::wide(pushes[n]), d)
+    depth_after(true, bytes::wide(pops[n]), bytes::wide(pushes[n]), d)
 }
 
 // The depth after a word of a kind with an operand.
@@ -103,12 +105,12 @@ fn by_kind(
     ensures { λ r. ⌜ capped r ≡ number (deeper (now (plan .entry)) (roleOf stores looks) (bit names) (instruction kind n) (some d)) ⌝ }
 {
     match kind {
-        0 => shift(true, 0, 1, d),
-        1 => shift(true, 1, 1, d),
-        2 => shift(named(names, n), 0, 1, d),
-        3 => shift(stores & named(names, n), 1, 0, d),
-        4 => shift(may_ask_place(plan, looks, n), 0, 1, d),
-        5 => shift(may_ask_port(plan, looks, n), 0, 1, d),
+        0 => depth_after(true, 0, 1, d),
+        1 => depth_after(true, 1, 1, d),
+        2 => depth_after(named(names, n), 0, 1, d),
+        3 => depth_after(stores & named(names, n), 1, 0, d),
+        4 => depth_after(may_ask_place(plan, looks, n), 0, 1, d),
+        5 => depth_after(may_ask_port(plan, looks, n), 0, 1, d),
         6 => operator(pops, pushes, n, d),
         7..=15 => BROKEN,
         _ => BROKEN,
@@ -176,7 +178,7 @@ fn each_ok(
             looks,
             names,
             d,
-            word::word_at(plan, start + i),
+            records::word_at(plan, start + i),
         );
         if d > 8 {
             return false;
@@ -203,15 +205,15 @@ pub fn span_ok(plan: &[u8], stores: bool, looks: bool, names: u64, at: usize) ->
     requires { ⌜ at + 4 ≤ length (now plan) ⌝ }
     ensures { λ r. ⌜ r ≡ spanOk (now (plan .entry)) (record { stores = stores; looks = looks }) (bit names) (spanAt (now (plan .entry)) at) ⌝ }
 {
-    let start = bytes::field(plan, at);
-    let size = bytes::field(plan, at + 2);
+    let start = records::span_start(plan, at);
+    let size = records::span_size(plan, at);
     if size == 0 {
-        return (start <= bytes::field(plan, 24)) & !looks;
+        return (start <= header::code_words(plan)) & !looks;
     }
     if size > 64 {
         return false;
     }
-    if start + size > bytes::field(plan, 24) {
+    if start + size > header::code_words(plan) {
         return false;
     }
     if stores {

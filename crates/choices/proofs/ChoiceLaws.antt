@@ -7,15 +7,15 @@ use native.Mathlib.Omega.{arith}
 use mathlib.Core.Bool.{Bool, true, false, cond, _&&_}
 use mathlib.Core.List.{List}
 use lib.ListN.{length, getD, set, replicate, length-set, length-replicate, getD-replicate}
-use lib.Seq.{getD-set-same, getD-set-other, ext-getD}
+use lib.Seq.{getD-set-same, getD-set-other}
 use lib.Dec.{ltb, eqb}
-use Rattle.semantics.specs.Bytes.{lowest, table}
+use Rattle.semantics.specs.Bytes.{lowest}
 use Rattle.semantics.specs.Plan.{Plan, transitions, componentOf, source, portOf, guardOf}
 use Rattle.semantics.specs.Code.{State, guardHolds}
 use Rattle.semantics.specs.Rules.{planRefusal}
 use Rattle.semantics.specs.Move.{ready, chosen}
-use Rattle.semantics.proofs.Basics.{bool-cases, absurd-bool, same-test, and-both, both-and, each, all-of, ltb-true, ltb-false, lt-ltb, le-ltb, eqb-true, eqb-same, eq-eqb, ne-eqb, lowest-le, length-table, getD-table}
-use Rattle.choices.specs.Choices.{choiceTable, slotOf, ripe, noted, lowestOr, choicesBelow}
+use Rattle.semantics.proofs.Basics.{bool-cases, absurd-bool, same-test, and-both, both-and, each, all-of, ltb-true, ltb-false, lt-ltb, le-ltb, eqb-true, eqb-same, eq-eqb, ne-eqb, lowest-le, length-table, getD-table, table-is, table-same}
+use Rattle.choices.specs.Choices.{chosenTable, slotOf, ripe, noted, lowestOr, chosenBelow}
 use Rattle.choices.proofs.PlanLaws.{component-lt, port-lt}
 
 -- ---- the lowest number, or another
@@ -49,16 +49,6 @@ or-step d n k false false e h = rw (le-ltb (suc n) (suc n) (le-refl (suc n)), eq
 or-next : (d n : ℕ) (f : ℕ → Bool) → n < d → lowestOr d (suc n) f ≡ cond (eqb (lowestOr d n f) d && f n) n (lowestOr d n f)
 unfolding lowestOr lowest
 or-next d n f h = or-step d n (lowest n f) (ltb (lowest n f) n) (f n) refl h
-
--- ---- tables
-
-pub table-all : (n : ℕ) (l : List ℕ) (f : ℕ → ℕ) → length l ≡ n → ((k : ℕ) → k < n → getD l k 0 ≡ f k) → l ≡ table n f
-table-all n l f h e =
-    ext-getD 0 l (table n f) (h ∙ sym (length-table n f))
-    (λ k q. let m : k < n = subst (λ (x : ℕ). k < x) h q in e k m ∙ sym (getD-table n f 0 k m))
-
-pub table-same : (n : ℕ) (f g : ℕ → ℕ) → ((k : ℕ) → k < n → f k ≡ g k) → table n f ≡ table n g
-table-same n f g e = table-all n (table n f) g (length-table n f) (λ k h. getD-table n f 0 k h ∙ e k h)
 
 -- ---- what one transition does
 
@@ -150,66 +140,66 @@ unfolding ready ripe
 ready-is p s t k h =
     same-test (ready p s (k / 16) (k % 16) t) (eqb k (slotOf p t) && ripe p s t)
     (λ e.
-    let a = each _ e in
-    let c : componentOf p t ≡ k / 16 = eqb-true _ _ (a .0) in
-    both-and (eq-eqb k (slotOf p t) (slot-back k (componentOf p t) (portOf p t) c (eqb-true _ _ (a .1 .1 .0))))
-    (both-and (subst (λ (x : ℕ). eqb (source p t) (getD (s .locations) x 0) ≡ true) (sym c) (a .1 .0)) (a .1 .1 .1 .0)))
+    let (own, (here, (port, (guard, _)))) = each _ e in
+    let c : componentOf p t ≡ k / 16 = eqb-true _ _ own in
+    both-and (eq-eqb k (slotOf p t) (slot-back k (componentOf p t) (portOf p t) c (eqb-true _ _ port)))
+    (both-and (subst (λ (x : ℕ). eqb (source p t) (getD (s .locations) x 0) ≡ true) (sym c) here) guard))
     (λ e.
-    let a = and-both (eqb k (slotOf p t)) (ripe p s t) e in
-    let q : k ≡ slotOf p t = eqb-true _ _ (a .0) in
+    let (slot, able) = and-both (eqb k (slotOf p t)) (ripe p s t) e in
+    let q : k ≡ slotOf p t = eqb-true _ _ slot in
     let c : componentOf p t ≡ k / 16 = slot-high k (componentOf p t) (portOf p t) h q in
-    let b = and-both (eqb (source p t) (getD (s .locations) (componentOf p t) 0)) (guardHolds p s (guardOf p t)) (a .1) in
+    let (here, guard) = and-both (eqb (source p t) (getD (s .locations) (componentOf p t) 0)) (guardHolds p s (guardOf p t)) able in
     all-of _ (
       eq-eqb _ _ c,
       (
-        subst (λ (x : ℕ). eqb (source p t) (getD (s .locations) x 0) ≡ true) c (b .0),
-        (eq-eqb _ _ (slot-low k (componentOf p t) (portOf p t) h q), (b .1, tt)),
+        subst (λ (x : ℕ). eqb (source p t) (getD (s .locations) x 0) ≡ true) c here,
+        (eq-eqb _ _ (slot-low k (componentOf p t) (portOf p t) h q), (guard, tt)),
       ),
     ))
 
 -- ---- the pass
 
-pub choices-none : (p : Plan) (s : State) → replicate 256 (transitions p) ≡ choicesBelow p s 0
-unfolding choicesBelow
-choices-none p s =
-    table-all 256 (replicate 256 (transitions p)) (λ k. lowestOr (transitions p) 0 (ready p s (k / 16) (k % 16)))
+pub chosen-none : (p : Plan) (s : State) → replicate 256 (transitions p) ≡ chosenBelow p s 0
+unfolding chosenBelow
+chosen-none p s =
+    table-is 0 (replicate 256 (transitions p)) 256 (λ k. lowestOr (transitions p) 0 (ready p s (k / 16) (k % 16)))
     (length-replicate 256 (transitions p))
     (λ k h. getD-replicate 256 k (transitions p) 0 h ∙ sym (or-none (transitions p) (ready p s (k / 16) (k % 16))))
 
-choices-length : (p : Plan) (s : State) (n : ℕ) → length (choicesBelow p s n) ≡ 256
-unfolding choicesBelow
-choices-length p s n = length-table 256 (λ k. lowestOr (transitions p) n (ready p s (k / 16) (k % 16)))
+chosen-length : (p : Plan) (s : State) (n : ℕ) → length (chosenBelow p s n) ≡ 256
+unfolding chosenBelow
+chosen-length p s n = length-table 256 (λ k. lowestOr (transitions p) n (ready p s (k / 16) (k % 16)))
 
 slot-lt : (a b : ℕ) → a < 16 → b < 16 → 16 * a + b < 256
 slot-lt a b h l = omega arith
 
-choices-next : (p : Plan) (s : State) (t : ℕ) → planRefusal p ≡ 0 → t < transitions p → noted p s t (choicesBelow p s t) ≡ choicesBelow p s (suc t)
-unfolding choicesBelow
-choices-next p s t h l =
-    table-all 256 (noted p s t (choicesBelow p s t)) (λ k. lowestOr (transitions p) (suc t) (ready p s (k / 16) (k % 16)))
-    (noted-length p s t (choicesBelow p s t) (choices-length p s t)) entry
+chosen-next : (p : Plan) (s : State) (t : ℕ) → planRefusal p ≡ 0 → t < transitions p → noted p s t (chosenBelow p s t) ≡ chosenBelow p s (suc t)
+unfolding chosenBelow
+chosen-next p s t h l =
+    table-is 0 (noted p s t (chosenBelow p s t)) 256 (λ k. lowestOr (transitions p) (suc t) (ready p s (k / 16) (k % 16)))
+    (noted-length p s t (chosenBelow p s t) (chosen-length p s t)) entry
   where
-    entry : (k : ℕ) → k < 256 → getD (noted p s t (choicesBelow p s t)) k 0 ≡ lowestOr (transitions p) (suc t) (ready p s (k / 16) (k % 16))
+    entry : (k : ℕ) → k < 256 → getD (noted p s t (chosenBelow p s t)) k 0 ≡ lowestOr (transitions p) (suc t) (ready p s (k / 16) (k % 16))
     entry k m =
-        noted-at p s t (choicesBelow p s t) (choices-length p s t) (slot-lt _ _ (component-lt p h t l) (port-lt p h t l)) k
+        noted-at p s t (chosenBelow p s t) (chosen-length p s t) (slot-lt _ _ (component-lt p h t l) (port-lt p h t l)) k
         ∙ ap₂ (λ (x : ℕ) (b : Bool). cond (eqb x (transitions p) && b) t x)
         (getD-table 256 (λ j. lowestOr (transitions p) t (ready p s (j / 16) (j % 16))) 0 k m) (sym (ready-is p s t k (port-lt p h t l)))
         ∙ sym (or-next (transitions p) t (ready p s (k / 16) (k % 16)) l)
 
-pub choices-step : (p : Plan) (s : State) (t : ℕ) (out r : List ℕ) → planRefusal p ≡ 0 → t < transitions p → out ≡ choicesBelow p s t → r ≡ noted p s t out
-    → r ≡ choicesBelow p s (t + 1)
-choices-step p s t out r h l d e = e ∙ ap (noted p s t) d ∙ choices-next p s t h l ∙ ap (choicesBelow p s) (sym (add-one t))
+pub chosen-step : (p : Plan) (s : State) (t : ℕ) (out r : List ℕ) → planRefusal p ≡ 0 → t < transitions p → out ≡ chosenBelow p s t → r ≡ noted p s t out
+    → r ≡ chosenBelow p s (t + 1)
+chosen-step p s t out r h l d e = e ∙ ap (noted p s t) d ∙ chosen-next p s t h l ∙ ap (chosenBelow p s) (sym (add-one t))
 
-pub choices-all : (p : Plan) (s : State) → choicesBelow p s (transitions p) ≡ choiceTable p s
-unfolding choicesBelow choiceTable chosen
-choices-all p s =
-    table-same 256 (λ k. lowestOr (transitions p) (transitions p) (ready p s (k / 16) (k % 16))) (λ k. chosen p s (k / 16) (k % 16))
+pub chosen-all : (p : Plan) (s : State) → chosenBelow p s (transitions p) ≡ chosenTable p s
+unfolding chosenBelow chosenTable chosen
+chosen-all p s =
+    table-same 0 256 (λ k. lowestOr (transitions p) (transitions p) (ready p s (k / 16) (k % 16))) (λ k. chosen p s (k / 16) (k % 16))
     (λ k h. or-all (transitions p) (ready p s (k / 16) (k % 16)))
 
 -- ---- reading the table
 
-pub choice-at : (p : Plan) (s : State) (c q : ℕ) → c < 16 → q < 16 → getD (choiceTable p s) (16 * c + q) 0 ≡ chosen p s c q
-unfolding choiceTable
-choice-at p s c q h l =
+pub chosen-at : (p : Plan) (s : State) (c q : ℕ) → c < 16 → q < 16 → getD (chosenTable p s) (16 * c + q) 0 ≡ chosen p s c q
+unfolding chosenTable
+chosen-at p s c q h l =
     getD-table 256 (λ k. chosen p s (k / 16) (k % 16)) 0 (16 * c + q) (slot-lt c q h l)
     ∙ ap₂ (chosen p s) (sym (slot-high (16 * c + q) c q l refl)) (sym (slot-low (16 * c + q) c q l refl))

@@ -1,135 +1,62 @@
 -- Building the mask of enabled interactions from the table of choices, and walking it for those that are not outranked.
-use mathlib.Core.Path.{_≡_, refl, sym, ap, ap₂, _∙_, subst}
+use mathlib.Core.Path.{_≡_, refl, sym, ap, ap₂, _∙_}
 use Prim.Native.Nat.{ℕ, _+_, _*_, _^_, _≤_, _<_}
-use native.Mathlib.Nat.{le-refl, le-trans}
-use native.Mathlib.Numerals.{add-one}
+use native.Mathlib.Nat.{le-trans}
 use native.Mathlib.Omega.{arith}
-use mathlib.Core.Bool.{Bool, true, false, not, _&&_, _||_}
+use mathlib.Core.Bool.{Bool, true, false, not, _&&_, _||_, and-true, and-false}
 use mathlib.Core.List.{List, [], _∷_}
 use lib.ListN.{getD}
 use lib.Dec.{ltb, eqb}
-use Rattle.semantics.specs.Bytes.{allOf, implies, every, some-below, lowest, bit, mask}
+use Rattle.semantics.specs.Bytes.{allOf, implies, every, some-below, lowest, bit, mask, withBit}
 use Rattle.semantics.specs.Plan.{Plan, components, transitions, interactions, portIn, takesPart, interactionGuard, rankRow, below}
 use Rattle.semantics.specs.Code.{State, guardHolds}
 use Rattle.semantics.specs.Rules.{rankOk, planRefusal}
-use Rattle.semantics.specs.Move.{used, enabled, outranked, eligible}
-use Rattle.semantics.specs.Calls.{withBit}
-use Rattle.semantics.proofs.Basics.{bool-cases, absurd-bool, same-test, and-both, both-and, or-right, implies-at, each, ltb-true, ltb-false, eqb-true, eq-eqb, ne-eqb, below-suc, every-at, every-all, some-has, some-found}
+use Rattle.semantics.specs.Move.{chosenIn, enabled, outranked, eligible}
+use Rattle.semantics.proofs.Basics.{bool-cases, absurd-bool, and-both, both-and, or-right, implies-at, each, ltb-true, ltb-false, eqb-true, eq-eqb, ne-eqb, every-at, or-no, every-same, some-wider, some-same}
 use Rattle.semantics.proofs.Masks.{bit-zero, bit-mask, bit-mask-over, mask-wider, mask-same, mask-none}
+use Rattle.semantics.proofs.Ranking.{eligible-in}
 use Rattle.semantics.proofs.AcceptedPlan.{accepted-plan}
 use Rattle.words.proofs.BitLaws.{bit-above, lowest-set}
-use Rattle.code.proofs.Sections.{laid-accepted}
-use Rattle.choices.specs.Choices.{choiceTable, portReady, stands, standing}
+use Rattle.layout.proofs.Sections.{laid-accepted}
+use Rattle.choices.specs.Choices.{chosenTable, portReady, stands, standing}
 use Rattle.choices.proofs.PlanLaws.{part-lt}
-use Rattle.choices.proofs.ChoiceLaws.{choice-at}
-
--- ---- Booleans
-
-and-yes : (a : Bool) → (a && true) ≡ a
-and-yes true = refl
-and-yes false = refl
-
-and-no : (a : Bool) → (a && false) ≡ false
-and-no true = refl
-and-no false = refl
-
-or-no : (a b : Bool) → b ≡ false → (a || b) ≡ a
-or-no true b e = refl
-or-no false b e = e
-
--- ---- bounded tests
-
-pub every-same : (n : ℕ) (f g : ℕ → Bool) → ((k : ℕ) → k < n → f k ≡ g k) → every n f ≡ every n g
-every-same n f g e =
-    same-test (every n f) (every n g) (λ h. every-all n g (λ k l. sym (e k l) ∙ every-at n f h k l))
-    (λ h. every-all n f (λ k l. e k l ∙ every-at n g h k l))
-
-pub every-none : (f : ℕ → Bool) → every 0 f ≡ true
-unfolding every
-every-none f = refl
-
-pub every-fails : (n : ℕ) (f : ℕ → Bool) (k : ℕ) → k < n → f k ≡ false → false ≡ every n f
-every-fails n f k h e = bool-cases (every n f) (λ y. absurd-bool (every-at n f y k h) e) sym
-
--- the same below n, and none from n to w
-pub some-wider : (n w : ℕ) (f g : ℕ → Bool) → n ≤ w → ((k : ℕ) → k < n → g k ≡ f k) → ((k : ℕ) → n ≤ k → k < w → g k ≡ false) → some-below w g ≡ some-below n f
-some-wider n w f g h e d =
-    same-test (some-below w g) (some-below n f)
-    (λ q.
-    let r = some-found w g q in
-    bool-cases (ltb (r .0) n) (λ l. some-has n f (r .0) (ltb-true _ _ l) (sym (e (r .0) (ltb-true _ _ l)) ∙ r .2))
-    (λ l. absurd-bool (r .2) (d (r .0) (ltb-false _ _ l) (r .1))))
-    (λ q. let r = some-found n f q in some-has w g (r .0) (le-trans (r .1) h) (e (r .0) (r .1) ∙ r .2))
-
-pub some-same : (n : ℕ) (f g : ℕ → Bool) → ((k : ℕ) → k < n → g k ≡ f k) → some-below n g ≡ some-below n f
-some-same n f g e = some-wider n n f g (le-refl n) e (λ k h l. absurd (clash k n h l))
-  where
-    clash : (k n : ℕ) → n ≤ k → k < n → ⊥
-    clash k n h l = omega arith
-
--- ---- a mask built from its lowest bit on
-
-apart : (k n : ℕ) → k < n → k ≡ n → ⊥
-apart k n h e = omega arith
-
-beyond : (k n : ℕ) → n + 1 ≤ k → k ≡ n → ⊥
-beyond k n h e = omega arith
-
-pub mask-start : (f : ℕ → Bool) → 0 ≡ mask 0 f
-unfolding mask
-mask-start f = refl
-
-pub mask-yes : (n : ℕ) (f : ℕ → Bool) → n < 64 → f n ≡ true → withBit (mask n f) n ≡ mask (n + 1) f
-unfolding withBit
-mask-yes n f h y =
-    mask-wider (n + 1) 64 f (λ j. bit (mask n f) j || eqb j n) (omega arith)
-    (λ k l.
-    below-suc (subst (λ (x : ℕ). k < x) (add-one n) l)
-    (λ m. or-no (bit (mask n f) k) (eqb k n) (ne-eqb k n (apart k n m)) ∙ bit-mask n f k m)
-    (λ m. or-right (bit (mask n f) k) (eqb k n) (eq-eqb k n m) ∙ sym (ap f m ∙ y)))
-    (λ k l m. or-no (bit (mask n f) k) (eqb k n) (ne-eqb k n (beyond k n l)) ∙ bit-mask-over n f k (omega arith))
-
-pub mask-no : (n : ℕ) (f : ℕ → Bool) → f n ≡ false → mask n f ≡ mask (n + 1) f
-mask-no n f y = sym (mask-wider n (n + 1) f f (omega arith) (λ k l. refl) (λ k l m. ap f (between k n l m) ∙ y))
-  where
-    between : (k n : ℕ) → n ≤ k → k < n + 1 → k ≡ n
-    between k n l m = omega arith
+use Rattle.choices.proofs.ChoiceLaws.{chosen-at}
 
 -- ---- a port, looked up in the table
 
-pub ready-apart : (p : Plan) (picks : List ℕ) (i c : ℕ) → portIn p i c ≡ 255 → true ≡ portReady p picks i c
+pub ready-apart : (p : Plan) (chosen : List ℕ) (i c : ℕ) → portIn p i c ≡ 255 → true ≡ portReady p chosen i c
 unfolding portReady takesPart implies
-ready-apart p picks i c e = rw (eq-eqb (portIn p i c) 255 e) refl
+ready-apart p chosen i c e = rw (eq-eqb (portIn p i c) 255 e) refl
 
-pub ready-part : (p : Plan) (picks : List ℕ) (i c q n : ℕ) → q ≡ portIn p i c → n ≡ transitions p → (q ≡ 255 → ⊥)
-    → ltb (getD picks (16 * c + q) 0) n ≡ portReady p picks i c
+pub ready-part : (p : Plan) (chosen : List ℕ) (i c q n : ℕ) → q ≡ portIn p i c → n ≡ transitions p → (q ≡ 255 → ⊥)
+    → ltb (getD chosen (16 * c + q) 0) n ≡ portReady p chosen i c
 unfolding portReady takesPart implies
-ready-part p picks i c q n x y f =
-    ap₂ (λ (a b : ℕ). ltb (getD picks (16 * c + a) 0) b) x y ∙ rw (ne-eqb (portIn p i c) 255 (λ e. f (x ∙ e))) refl
+ready-part p chosen i c q n x y f =
+    ap₂ (λ (a b : ℕ). ltb (getD chosen (16 * c + a) 0) b) x y ∙ rw (ne-eqb (portIn p i c) 255 (λ e. f (x ∙ e))) refl
 
 -- ---- enabled, read from the table
 
-module _ (p : Plan) (s : State) (picks : List ℕ) (i : ℕ) (h : planRefusal p ≡ 0) (l : i < interactions p) (t : picks ≡ choiceTable p s) where
-  port-is : (c : ℕ) → c < components p → portReady p picks i c ≡ implies (takesPart p i c) (ltb (used p s i c) (transitions p))
-  unfolding portReady implies used
+module _ (p : Plan) (s : State) (chosen : List ℕ) (i : ℕ) (h : planRefusal p ≡ 0) (l : i < interactions p) (t : chosen ≡ chosenTable p s) where
+  port-is : (c : ℕ) → c < components p → portReady p chosen i c ≡ implies (takesPart p i c) (ltb (chosenIn p s i c) (transitions p))
+  unfolding portReady implies chosenIn
   port-is c m =
       let n : c < 16 = le-trans m (laid-accepted p h .components≤) in
       bool-cases (takesPart p i c)
-      (λ e. rw e (ap (λ (x : ℕ). ltb x (transitions p)) (ap (λ (q : List ℕ). getD q (16 * c + portIn p i c) 0) t ∙ choice-at p s c (portIn p i c) n (part-lt p h i c l n e .1))))
+      (λ e. rw e (ap (λ (x : ℕ). ltb x (transitions p)) (ap (λ (q : List ℕ). getD q (16 * c + portIn p i c) 0) t ∙ chosen-at p s c (portIn p i c) n (part-lt p h i c l n e .1))))
       (λ e. rw e refl)
 
-  parts-are : every (components p) (portReady p picks i) ≡ every (components p) (λ c. implies (takesPart p i c) (ltb (used p s i c) (transitions p)))
-  parts-are = every-same (components p) (portReady p picks i) (λ c. implies (takesPart p i c) (ltb (used p s i c) (transitions p))) port-is
+  parts-are : every (components p) (portReady p chosen i) ≡ every (components p) (λ c. implies (takesPart p i c) (ltb (chosenIn p s i c) (transitions p)))
+  parts-are = every-same (components p) (portReady p chosen i) (λ c. implies (takesPart p i c) (ltb (chosenIn p s i c) (transitions p))) port-is
 
   -- a part without a transition
-  pub enabled-not : every (components p) (portReady p picks i) ≡ false → false ≡ enabled p s i
+  pub enabled-not : every (components p) (portReady p chosen i) ≡ false → false ≡ enabled p s i
   unfolding enabled allOf
-  enabled-not e = rw (sym parts-are ∙ e) (sym (and-no (guardHolds p s (interactionGuard p i))))
+  enabled-not e = rw (sym parts-are ∙ e) (sym (and-false (guardHolds p s (interactionGuard p i))))
 
   -- each part has one: the guard decides
-  pub enabled-guard : every (components p) (portReady p picks i) ≡ true → guardHolds p s (interactionGuard p i) ≡ enabled p s i
+  pub enabled-guard : every (components p) (portReady p chosen i) ≡ true → guardHolds p s (interactionGuard p i) ≡ enabled p s i
   unfolding enabled allOf
-  enabled-guard e = rw (sym parts-are ∙ e) (sym (and-yes (guardHolds p s (interactionGuard p i))))
+  enabled-guard e = rw (sym parts-are ∙ e) (sym (and-true (guardHolds p s (interactionGuard p i))))
 
 -- ---- outranked, by a row of the ranks
 
@@ -167,7 +94,7 @@ passed-none p m =
 pub passed-all : (p : Plan) (m : ℕ) → passed p m 0 ≡ standing p m
 unfolding passed standing
 passed-all p m =
-    mask-same (interactions p) (stands p m) (λ j. stands p m j && not (bit 0 j)) (λ k l. ap (λ (b : Bool). stands p m k && not b) (bit-zero k) ∙ and-yes (stands p m k))
+    mask-same (interactions p) (stands p m) (λ j. stands p m j && not (bit 0 j)) (λ k l. ap (λ (b : Bool). stands p m k && not b) (bit-zero k) ∙ and-true (stands p m k))
 
 -- the lowest bit of what is left is in it
 pub lowest-held : (left i : ℕ) → i ≡ lowest 64 (bit left) → left < 2 ^ 64 → 0 < left → bit left i ≡ true
@@ -185,7 +112,7 @@ module _ (p : Plan) (m left next i : ℕ) (cut : (j : ℕ) → bit next j ≡ (b
   -- what the walk has passed at another bit
   elsewhere : (k : ℕ) → eqb k i ≡ false → (stands p m k && not (bit left k)) ≡ (stands p m k && not (bit next k))
   elsewhere k e =
-      let q : bit next k ≡ bit left k = cut k ∙ rw e (and-yes (bit left k)) in ap (λ (b : Bool). stands p m k && not b) (sym q)
+      let q : bit next k ≡ bit left k = cut k ∙ rw e (and-true (bit left k)) in ap (λ (b : Bool). stands p m k && not b) (sym q)
 
   -- bit i stands
   pub passed-yes : i < interactions p → interactions p ≤ 64 → stands p m i ≡ true → withBit (passed p m left) i ≡ passed p m next
@@ -200,7 +127,7 @@ module _ (p : Plan) (m left next i : ℕ) (cut : (j : ℕ) → bit next j ≡ (b
       over k n e = omega arith
 
       gone : (k : ℕ) → eqb k i ≡ true → bit next k ≡ false
-      gone k e = cut k ∙ rw e (and-no (bit left k))
+      gone k e = cut k ∙ rw e (and-false (bit left k))
 
       taken : (k : ℕ) → eqb k i ≡ true → ((stands p m k && not (bit left k)) || eqb k i) ≡ (stands p m k && not (bit next k))
       taken k e = or-right (stands p m k && not (bit left k)) (eqb k i) e ∙ sym (both-and (ap (stands p m) (eqb-true k i e) ∙ y) (ap not (gone k e)))
@@ -218,14 +145,12 @@ stands-yes p m i b e = rw (b, e) refl
 
 pub stands-no : (p : Plan) (m i : ℕ) → some-below (interactions p) (λ j. below p i j && bit m j) ≡ true → stands p m i ≡ false
 unfolding stands allOf
-stands-no p m i e = rw e (and-no (bit m i))
+stands-no p m i e = rw e (and-false (bit m i))
 
 -- ---- the meaning: what stands in the mask of the enabled is eligible
 
 pub standing-eligible : (p : Plan) (s : State) → standing p (mask (interactions p) (enabled p s)) ≡ mask (interactions p) (eligible p s)
-unfolding standing stands eligible outranked
+unfolding standing stands
 standing-eligible p s =
     mask-same (interactions p) (eligible p s) (stands p (mask (interactions p) (enabled p s)))
-    (λ k l. ap₂ (λ (a b : Bool). allOf (a ∷ not b ∷ [])) (bit-mask (interactions p) (enabled p s) k l)
-    (some-same (interactions p) (λ j. below p k j && enabled p s j) (λ j. below p k j && bit (mask (interactions p) (enabled p s)) j)
-    (λ j n. ap (λ (b : Bool). below p k j && b) (bit-mask (interactions p) (enabled p s) j n))))
+    (λ k l. eligible-in p s k (mask (interactions p) (enabled p s)) (bit-mask (interactions p) (enabled p s)) l)

@@ -12,7 +12,7 @@ use Rattle.semantics.specs.Plan.{Plan, components, interactions, interactionAt,
 use Rattle.semantics.specs.Rules.{planRefusal}
 use Rattle.semantics.proofs.Basics.{bool-cases, absurd-bool, same-test, implies-at, ltb-true, ltb-false, eqb-true, not-no, every-at, every-all}
 use Rattle.words.proofs.BitLaws.{bit-shr, bit-shift, bit-and, bit-not, bit-above}
-use Rattle.code.proofs.Sections.{laid-accepted}
+use Rattle.layout.proofs.Sections.{laid-accepted}
 use Rattle.choices.specs.Choices.{portReady}
 use Rattle.choices.proofs.PlanLaws.{part-lt}
 
@@ -80,46 +80,46 @@ module _ (p : Plan) (a : planRefusal p ≡ 0) (i : ℕ) (h : i < interactions p)
       bit-and (2 ^ 64 - 1 - row) 9259542123273814144 (8 * c + 7)
       ∙ ap₂ _&&_ (bit-not 64 row (8 * c + 7) w (omega arith) ∙ ap not clear) (sevens c l)
 
-  module _ (picks : List ℕ) where
-    ready-none : (c : ℕ) → takesPart p i c ≡ false → portReady p picks i c ≡ true
+  module _ (chosen : List ℕ) where
+    ready-none : (c : ℕ) → takesPart p i c ≡ false → portReady p chosen i c ≡ true
     unfolding portReady implies
     ready-none c t = rw t refl
 
     -- each set bit's component was looked at
     pub eight-done : (base m : ℕ) → ((c : ℕ) → c < 8 → takesPart p i (base + c) ≡ true → bit m (8 * c + 7) ≡ true)
-        → every 64 (λ j. implies (bit m j) (portReady p picks i (base + j / 8))) ≡ true → every 8 (λ c. portReady p picks i (base + c)) ≡ true
+        → every 64 (λ j. implies (bit m j) (portReady p chosen i (base + j / 8))) ≡ true → every 8 (λ c. portReady p chosen i (base + c)) ≡ true
     eight-done base m f d =
-        every-all 8 (λ c. portReady p picks i (base + c)) (λ c l.
+        every-all 8 (λ c. portReady p chosen i (base + c)) (λ c l.
         bool-cases (takesPart p i (base + c))
         (λ t.
         let e : (8 * c + 7) / 8 ≡ c = omega arith in
-        subst (λ (x : ℕ). portReady p picks i (base + x) ≡ true) e
-        (implies-at (bit m (8 * c + 7)) (portReady p picks i (base + (8 * c + 7) / 8))
-        (every-at 64 (λ j. implies (bit m j) (portReady p picks i (base + j / 8))) d (8 * c + 7) (omega arith)) (f c l t)))
+        subst (λ (x : ℕ). portReady p chosen i (base + x) ≡ true) e
+        (implies-at (bit m (8 * c + 7)) (portReady p chosen i (base + (8 * c + 7) / 8))
+        (every-at 64 (λ j. implies (bit m j) (portReady p chosen i (base + j / 8))) d (8 * c + 7) (omega arith)) (f c l t)))
         (ready-none (base + c)))
 
     -- a part of the first eight is not ready
-    pub eight-fails : 8 ≤ components p → every 8 (λ c. portReady p picks i (0 + c)) ≡ false → false ≡ every (components p) (portReady p picks i)
+    pub eight-fails : 8 ≤ components p → every 8 (λ c. portReady p chosen i (0 + c)) ≡ false → false ≡ every (components p) (portReady p chosen i)
     eight-fails n e =
-        bool-cases (every (components p) (portReady p picks i))
-        (λ y. absurd-bool (every-all 8 (λ c. portReady p picks i (0 + c)) (λ c l. every-at (components p) (portReady p picks i) y (0 + c) (omega arith))) e) sym
+        bool-cases (every (components p) (portReady p chosen i))
+        (λ y. absurd-bool (every-all 8 (λ c. portReady p chosen i (0 + c)) (λ c l. every-at (components p) (portReady p chosen i) y (0 + c) (omega arith))) e) sym
 
     -- all of them are: the second eight decide
-    pub eights : 8 ≤ components p → every 8 (λ c. portReady p picks i (0 + c)) ≡ true
-        → every 8 (λ c. portReady p picks i (8 + c)) ≡ every (components p) (portReady p picks i)
+    pub eights : 8 ≤ components p → every 8 (λ c. portReady p chosen i (0 + c)) ≡ true
+        → every 8 (λ c. portReady p chosen i (8 + c)) ≡ every (components p) (portReady p chosen i)
     eights n e =
-        same-test (every 8 (λ c. portReady p picks i (8 + c))) (every (components p) (portReady p picks i))
+        same-test (every 8 (λ c. portReady p chosen i (8 + c))) (every (components p) (portReady p chosen i))
         (λ y.
-        every-all (components p) (portReady p picks i) (λ k l.
+        every-all (components p) (portReady p chosen i) (λ k l.
         let n16 : components p ≤ 16 = laid-accepted p a .components≤ in
         bool-cases (ltb k 8)
-        (λ q. ap (portReady p picks i) (sym (zero-add k)) ∙ every-at 8 (λ c. portReady p picks i (0 + c)) e k (ltb-true k 8 q))
+        (λ q. ap (portReady p chosen i) (sym (zero-add k)) ∙ every-at 8 (λ c. portReady p chosen i (0 + c)) e k (ltb-true k 8 q))
         (λ q.
         let g : 8 ≤ k = ltb-false k 8 q in
         let w : k ≡ 8 + (k - 8) = omega arith in
-        ap (portReady p picks i) w ∙ every-at 8 (λ c. portReady p picks i (8 + c)) y (k - 8) (omega arith))))
+        ap (portReady p chosen i) w ∙ every-at 8 (λ c. portReady p chosen i (8 + c)) y (k - 8) (omega arith))))
         (λ y.
-        every-all 8 (λ c. portReady p picks i (8 + c)) (λ c l.
+        every-all 8 (λ c. portReady p chosen i (8 + c)) (λ c l.
         bool-cases (takesPart p i (8 + c))
-        (λ t. every-at (components p) (portReady p picks i) y (8 + c) (part-lt p a i (8 + c) h (omega arith) t .0))
+        (λ t. every-at (components p) (portReady p chosen i) y (8 + c) (part-lt p a i (8 + c) h (omega arith) t .0))
         (ready-none (8 + c))))

@@ -10,10 +10,10 @@ use Rattle.semantics.specs.Code.{State, guardHolds}
 use Rattle.semantics.specs.Move.{ready, chosen}
 
 -- Entry 16 * c + q is the transition that component c uses through port q; the number of transitions where there is none.
-unfoldable pub choiceTable : Plan → State → List ℕ
-choiceTable p s = table 256 (λ k. chosen p s (k / 16) (k % 16))
+unfoldable pub chosenTable : Plan → State → List ℕ
+chosenTable p s = table 256 (λ k. chosen p s (k / 16) (k % 16))
 
--- Where a transition's choice stands in the table.
+-- Where a transition stands in the table when it is chosen.
 abbrev pub slotOf : Plan → ℕ → ℕ
 slotOf p t = 16 * componentOf p t + portOf p t
 
@@ -30,12 +30,12 @@ unfoldable pub lowestOr : ℕ → ℕ → (ℕ → Bool) → ℕ
 lowestOr none n f = let k = lowest n f in cond (ltb k n) k none
 
 -- The table when the transitions below n were considered.
-unfoldable pub choicesBelow : Plan → State → ℕ → List ℕ
-choicesBelow p s n = table 256 (λ k. lowestOr (transitions p) n (ready p s (k / 16) (k % 16)))
+unfoldable pub chosenBelow : Plan → State → ℕ → List ℕ
+chosenBelow p s n = table 256 (λ k. lowestOr (transitions p) n (ready p s (k / 16) (k % 16)))
 
 -- Component c takes no part in interaction i, or the table has a transition for its port.
 unfoldable pub portReady : Plan → List ℕ → ℕ → ℕ → Bool
-portReady p picks i c = implies (takesPart p i c) (ltb (getD picks (16 * c + portIn p i c) 0) (transitions p))
+portReady p chosen i c = implies (takesPart p i c) (ltb (getD chosen (16 * c + portIn p i c) 0) (transitions p))
 
 -- Interaction i is in the mask, and none of the mask lies above it.
 unfoldable pub stands : Plan → ℕ → ℕ → Bool

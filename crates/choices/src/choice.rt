@@ -1,49 +1,34 @@
 // The transition that each component uses through each of its ports, found in one pass over the transitions.
 use code::eval;
+use layout::header;
+use layout::records;
 use words::bytes;
 ghost use mathlib.Core.Path.{_≡_};
-ghost use Prim.Native.Nat.{_+_, _≤_, _<_};
+ghost use Prim.Native.Nat.{_<_};
+ghost use mathlib.Core.Bool.{cond};
+ghost use lib.Dec.{ltb};
 ghost use lib.ListN.{length, replicate};
-ghost use Rattle.semantics.specs.Plan.{transitions, transitionAt, componentOf, source, portOf, guardOf};
-ghost use Rattle.semantics.specs.Code.{guardHolds};
+ghost use Rattle.semantics.specs.Plan.{maxComponents, transitions, componentOf, portOf, guardOf};
+ghost use Rattle.semantics.specs.Code.{site, guardHolds};
 ghost use Rattle.semantics.specs.Rules.{planRefusal};
-ghost use Rattle.lane.specs.Runs.{site};
-ghost use Rattle.choices.specs.Choices.{choiceTable, noted};
+ghost use Rattle.choices.specs.Choices.{chosenTable, noted};
 
-// Where transition t stands in the plan.
-pub fn transition_at(plan: &[u8], t: usize) -> usize
-    requires { ⌜ planRefusal (now plan) ≡ 0 ⌝ }
-    requires { ⌜ t < transitions (now plan) ⌝ }
-    ensures { λ r. ⌜ (r ≡ transitionAt (now (plan .entry)) t) × (r + 12 ≤ length (now (plan .entry))) ⌝ }
-{
-    bytes::field(plan, 30) + 12 * t
-}
-
+// The component of transition t.
 fn component_of(plan: &[u8], t: usize) -> usize
     requires { ⌜ planRefusal (now plan) ≡ 0 ⌝ }
     requires { ⌜ t < transitions (now plan) ⌝ }
-    ensures { λ r. ⌜ (r ≡ componentOf (now (plan .entry)) t) × (r < 16) ⌝ }
+    ensures { λ r. ⌜ (r ≡ componentOf (now (plan .entry)) t) × (r < maxComponents) ⌝ }
 {
-    let at = transition_at(plan, t);
-    bytes::wide(plan[at])
+    bytes::wide(plan[records::transition_at(plan, t)])
 }
 
-fn source_of(plan: &[u8], t: usize) -> u8
-    requires { ⌜ planRefusal (now plan) ≡ 0 ⌝ }
-    requires { ⌜ t < transitions (now plan) ⌝ }
-    ensures { λ r. ⌜ r ≡ source (now (plan .entry)) t ⌝ }
-{
-    let at = transition_at(plan, t);
-    plan[at + 1]
-}
-
+// The port of transition t.
 fn port_of(plan: &[u8], t: usize) -> usize
     requires { ⌜ planRefusal (now plan) ≡ 0 ⌝ }
     requires { ⌜ t < transitions (now plan) ⌝ }
     ensures { λ r. ⌜ (r ≡ portOf (now (plan .entry)) t) × (r < 16) ⌝ }
 {
-    let at = transition_at(plan, t);
-    bytes::wide(plan[at + 2])
+    bytes::wide(plan[records::transition_at(plan, t) + records::PORT])
 }
 
 // Whether the guard of transition t holds.
@@ -56,10 +41,16 @@ fn guard_of(
 ) -> bool
     requires { ⌜ planRefusal (now plan) ≡ 0 ⌝ }
     requires { ⌜ t < transitions (now plan) ⌝ }
-    ensures { λ r. ⌜ r ≡ guardHolds (now (plan .entry)) (site (now (locations .entry)) (now (ports .entry)) (now (values .entry))) (guardOf (now (plan .entry)) t) ⌝ }
+    ensures { λ r. ⌜ r ≡ guardHolds (now (plan .entry)) (site (now (locations .entry)) (now (ports .entry)) (now (values .entry)))
+        (guardOf (now (plan .entry)) t) ⌝ }
 {
-    let at = transition_at(plan, t);
-    eval::guard_holds(plan, locations, ports, values, at + 4)
+    eval::guard_holds(
+        plan,
+        locations,
+        ports,
+        values,
+        records::transition_at(plan, t) + records::GUARD,
+    )
 }
 
 // Gives transition t its slot, where the slot is still open and the transition can be taken.
@@ -73,14 +64,15 @@ fn consider(
 )
     requires { ⌜ planRefusal (now plan) ≡ 0 ⌝ }
     requires { ⌜ (t < transitions (now plan)) × (length (now out) ≡ 256) ⌝ }
-    ensures { λ _. ⌜ (now (out .exit) ≡ noted (now (plan .entry)) (site (now (locations .entry)) (now (ports .entry)) (now (values .entry))) t (now (out .entry))) × (length (now (out .exit)) ≡ 256) ⌝ }
+    ensures { λ _. ⌜ (now (out .exit) ≡ noted (now (plan .entry)) (site (now (locations .entry)) (now (ports .entry)) (now (values .entry))) t (now (out .entry)))
+        × (length (now (out .exit)) ≡ 256) ⌝ }
 {
     let c = component_of(plan, t);
-    if source_of(plan, t) != locations[c] {
+    if plan[records::transition_at(plan, t) + records::SOURCE] != locations[c] {
         return;
     }
     let slot = 16 * c + port_of(plan, t);
-    if out[slot] != bytes::u16_at(plan, 14) {
+    if out[slot] != header::no_transition(plan) {
         return;
     }
     if guard_of(plan, locations, ports, values, t) {
@@ -88,9 +80,19 @@ fn consider(
     }
 }
 
+// What each entry of the table holds before a transition was considered: the number of transitions, for none. 0 where the plan is too short to say it.
+pub fn unset(plan: &[u8]) -> u16
+    ensures { λ r. ⌜ r ≡ cond (ltb (length (now (plan .entry))) 48) 0 (transitions (now (plan .entry))) ⌝ }
+{
+    if plan.len() < header::HEADER {
+        return 0;
+    }
+    header::no_transition(plan)
+}
+
 // Fills a table that has the number of transitions, for none, in each entry: entry 16 * c + q is the transition that component c uses through
 // port q.
-pub fn choices<'a>(
+pub fn choose<'a>(
     plan: &[u8],
     locations: &'a [u8; 16],
     ports: &'a [u8; 16],
@@ -99,9 +101,9 @@ pub fn choices<'a>(
 )
     requires { ⌜ planRefusal (now plan) ≡ 0 ⌝ }
     requires { ⌜ now out ≡ replicate 256 (transitions (now plan)) ⌝ }
-    ensures { λ _. ⌜ now (out .exit) ≡ choiceTable (now (plan .entry)) (site (now (locations .entry)) (now (ports .entry)) (now (values .entry))) ⌝ }
+    ensures { λ _. ⌜ now (out .exit) ≡ chosenTable (now (plan .entry)) (site (now (locations .entry)) (now (ports .entry)) (now (values .entry))) ⌝ }
 {
-    let count = bytes::field(plan, 14);
+    let count = header::transitions(plan);
     let mut t = 0;
     while t < count {
         consider(plan, locations, ports, values, out, t);

@@ -1,59 +1,50 @@
 // Which interactions are enabled, and which of those are not outranked, as 64-bit masks.
 use code::eval;
+use layout::header;
+use layout::records;
 use words::bits;
 use words::bytes;
 ghost use mathlib.Core.Path.{_≡_};
 ghost use mathlib.Core.Bool.{true, _&&_};
 ghost use Prim.Native.Nat.{ℕ, _+_, _*_, _^_, _≤_, _<_};
-ghost use lib.ListN.{length};
 ghost use Rattle.semantics.specs.Bytes.{bit, every, some-below, mask};
-ghost use Rattle.semantics.specs.Plan.{components, interactions, interactionAt, portIn, takesPart, below};
+ghost use Rattle.semantics.specs.Plan.{maxComponents, noPort, components, interactions, portIn, takesPart, below};
+ghost use Rattle.semantics.specs.Code.{site};
 ghost use Rattle.semantics.specs.Rules.{planRefusal};
 ghost use Rattle.semantics.specs.Move.{enabled};
-ghost use Rattle.lane.specs.Runs.{site};
-ghost use Rattle.choices.specs.Choices.{choiceTable, portReady, standing};
-
-// Where interaction i stands in the plan.
-pub fn interaction_at(plan: &[u8], i: usize) -> usize
-    requires { ⌜ planRefusal (now plan) ≡ 0 ⌝ }
-    requires { ⌜ i < interactions (now plan) ⌝ }
-    ensures { λ r. ⌜ (r ≡ interactionAt (now (plan .entry)) i) × (r + 24 ≤ length (now (plan .entry))) ⌝ }
-{
-    bytes::field(plan, 32) + 24 * i
-}
+ghost use Rattle.choices.specs.Choices.{chosenTable, portReady, standing};
 
 // The port of component c in interaction i; 255 where it takes no part.
 pub fn port_in(plan: &[u8], i: usize, c: usize) -> usize
     requires { ⌜ planRefusal (now plan) ≡ 0 ⌝ }
-    requires { ⌜ (i < interactions (now plan)) × (c < 16) ⌝ }
-    ensures { λ r. ⌜ (r ≡ portIn (now (plan .entry)) i c) × ((r ≡ 255 → ⊥) → r < 16) ⌝ }
+    requires { ⌜ (i < interactions (now plan)) × (c < maxComponents) ⌝ }
+    ensures { λ r. ⌜ (r ≡ portIn (now (plan .entry)) i c) × ((r ≡ noPort → ⊥) → r < 16) ⌝ }
 {
-    let at = interaction_at(plan, i);
-    bytes::wide(plan[at + c])
+    bytes::wide(plan[records::interaction_at(plan, i) + c])
 }
 
 // Whether component c takes no part in interaction i, or has a transition for its port.
-fn port_ready(plan: &[u8], picks: &[u16; 256], i: usize, c: usize) -> bool
+fn port_ready(plan: &[u8], chosen: &[u16; 256], i: usize, c: usize) -> bool
     requires { ⌜ planRefusal (now plan) ≡ 0 ⌝ }
-    requires { ⌜ (i < interactions (now plan)) × (c < 16) ⌝ }
-    ensures { λ r. ⌜ r ≡ portReady (now (plan .entry)) (now (picks .entry)) i c ⌝ }
+    requires { ⌜ (i < interactions (now plan)) × (c < maxComponents) ⌝ }
+    ensures { λ r. ⌜ r ≡ portReady (now (plan .entry)) (now (chosen .entry)) i c ⌝ }
 {
     let q = port_in(plan, i, c);
     if q == 255 {
         return true;
     }
-    picks[16 * c + q] < bytes::u16_at(plan, 14)
+    chosen[16 * c + q] < header::no_transition(plan)
 }
 
 // Whether each component below a count that takes part in interaction i has a transition for its port; one by one.
-fn few_ready(plan: &[u8], picks: &[u16; 256], i: usize, count: usize) -> bool
+fn few_ready(plan: &[u8], chosen: &[u16; 256], i: usize, count: usize) -> bool
     requires { ⌜ planRefusal (now plan) ≡ 0 ⌝ }
-    requires { ⌜ (i < interactions (now plan)) × (count ≤ 16) ⌝ }
-    ensures { λ r. ⌜ r ≡ every count (portReady (now (plan .entry)) (now (picks .entry)) i) ⌝ }
+    requires { ⌜ (i < interactions (now plan)) × (count ≤ maxComponents) ⌝ }
+    ensures { λ r. ⌜ r ≡ every count (portReady (now (plan .entry)) (now (chosen .entry)) i) ⌝ }
 {
     let mut c = 0;
     while c < count {
-        if !port_ready(plan, picks, i, c) {
+        if !port_ready(plan, chosen, i, c) {
             return false;
         }
         c += 1;
@@ -67,20 +58,19 @@ fn part_bits(plan: &[u8], i: usize, base: usize) -> u64
     requires { ⌜ (i < interactions (now plan)) × (base ≤ 8) ⌝ }
     ensures { λ r. ⌜ ((c : ℕ) → c < 8 → takesPart (now (plan .entry)) i (base + c) ≡ true → bit r (8 * c + 7) ≡ true) ⌝ }
 {
-    let at = interaction_at(plan, i);
-    !bytes::u64_at(plan, at + base) & 0x8080_8080_8080_8080
+    !bytes::u64_at(plan, records::interaction_at(plan, i) + base) & 0x8080_8080_8080_8080
 }
 
 // Whether each of the eight components from base on that takes part in interaction i has a transition for its port; those alone are visited.
-fn eight_ready(plan: &[u8], picks: &[u16; 256], i: usize, base: usize) -> bool
+fn eight_ready(plan: &[u8], chosen: &[u16; 256], i: usize, base: usize) -> bool
     requires { ⌜ planRefusal (now plan) ≡ 0 ⌝ }
     requires { ⌜ (i < interactions (now plan)) × (base ≤ 8) ⌝ }
-    ensures { λ r. ⌜ r ≡ every 8 (λ c. portReady (now (plan .entry)) (now (picks .entry)) i (base + c)) ⌝ }
+    ensures { λ r. ⌜ r ≡ every 8 (λ c. portReady (now (plan .entry)) (now (chosen .entry)) i (base + c)) ⌝ }
 {
     let mut left = part_bits(plan, i, base);
     while left != 0 {
         let c = bits::lowest_bit(left) >> 3;
-        if !port_ready(plan, picks, i, base + c) {
+        if !port_ready(plan, chosen, i, base + c) {
             return false;
         }
         left = bits::without_lowest(left);
@@ -89,19 +79,19 @@ fn eight_ready(plan: &[u8], picks: &[u16; 256], i: usize, base: usize) -> bool
 }
 
 // Whether each component that takes part in interaction i has a transition for its port.
-fn parts_ready(plan: &[u8], picks: &[u16; 256], i: usize) -> bool
+fn parts_ready(plan: &[u8], chosen: &[u16; 256], i: usize) -> bool
     requires { ⌜ planRefusal (now plan) ≡ 0 ⌝ }
     requires { ⌜ i < interactions (now plan) ⌝ }
-    ensures { λ r. ⌜ r ≡ every (components (now (plan .entry))) (portReady (now (plan .entry)) (now (picks .entry)) i) ⌝ }
+    ensures { λ r. ⌜ r ≡ every (components (now (plan .entry))) (portReady (now (plan .entry)) (now (chosen .entry)) i) ⌝ }
 {
-    let count = bytes::field(plan, 10);
+    let count = header::components(plan);
     if count <= 8 {
-        return few_ready(plan, picks, i, count);
+        return few_ready(plan, chosen, i, count);
     }
-    if !eight_ready(plan, picks, i, 0) {
+    if !eight_ready(plan, chosen, i, 0) {
         return false;
     }
-    eight_ready(plan, picks, i, 8)
+    eight_ready(plan, chosen, i, 8)
 }
 
 // Whether interaction i is enabled; the ports before the guard.
@@ -110,37 +100,43 @@ fn is_enabled(
     locations: &[u8; 16],
     ports: &[u8; 16],
     values: &[i32; 64],
-    picks: &[u16; 256],
+    chosen: &[u16; 256],
     i: usize,
 ) -> bool
     requires { ⌜ planRefusal (now plan) ≡ 0 ⌝ }
-    requires { ⌜ (i < interactions (now plan)) × (now picks ≡ choiceTable (now plan) (site (now locations) (now ports) (now values))) ⌝ }
+    requires { ⌜ (i < interactions (now plan)) × (now chosen ≡ chosenTable (now plan) (site (now locations) (now ports) (now values))) ⌝ }
     ensures { λ r. ⌜ r ≡ enabled (now (plan .entry)) (site (now (locations .entry)) (now (ports .entry)) (now (values .entry))) i ⌝ }
 {
-    if !parts_ready(plan, picks, i) {
+    if !parts_ready(plan, chosen, i) {
         return false;
     }
-    let at = interaction_at(plan, i);
-    eval::guard_holds(plan, locations, ports, values, at + 16)
+    eval::guard_holds(
+        plan,
+        locations,
+        ports,
+        values,
+        records::interaction_at(plan, i) + records::INTERACTION_GUARD,
+    )
 }
 
-// The enabled interactions, from the table of choices.
+// The enabled interactions, from the table of chosen transitions.
 pub fn enabled_mask<'a>(
     plan: &[u8],
     locations: &'a [u8; 16],
     ports: &'a [u8; 16],
     values: &'a [i32; 64],
-    picks: &[u16; 256],
+    chosen: &[u16; 256],
 ) -> u64
     requires { ⌜ planRefusal (now plan) ≡ 0 ⌝ }
-    requires { ⌜ now picks ≡ choiceTable (now plan) (site (now locations) (now ports) (now values)) ⌝ }
-    ensures { λ r. ⌜ (r ≡ mask (interactions (now (plan .entry))) (enabled (now (plan .entry)) (site (now (locations .entry)) (now (ports .entry)) (now (values .entry))))) × (r < 2 ^ interactions (now (plan .entry))) ⌝ }
+    requires { ⌜ now chosen ≡ chosenTable (now plan) (site (now locations) (now ports) (now values)) ⌝ }
+    ensures { λ r. ⌜ (r ≡ mask (interactions (now (plan .entry))) (enabled (now (plan .entry)) (site (now (locations .entry)) (now (ports .entry)) (now (values .entry)))))
+        × (r < 2 ^ interactions (now (plan .entry))) ⌝ }
 {
-    let count = bytes::field(plan, 16);
+    let count = header::interactions(plan);
     let mut out = 0;
     let mut i = 0;
     while i < count {
-        if is_enabled(plan, locations, ports, values, picks, i) {
+        if is_enabled(plan, locations, ports, values, chosen, i) {
             out = bits::with_bit(out, i);
         }
         i += 1;
@@ -149,26 +145,25 @@ pub fn enabled_mask<'a>(
 }
 
 // Whether an interaction of the mask lies above interaction i.
-fn is_outranked(plan: &[u8], en: u64, i: usize) -> bool
+fn is_outranked(plan: &[u8], enabled: u64, i: usize) -> bool
     requires { ⌜ planRefusal (now plan) ≡ 0 ⌝ }
     requires { ⌜ i < interactions (now plan) ⌝ }
-    ensures { λ r. ⌜ r ≡ some-below (interactions (now (plan .entry))) (λ j. below (now (plan .entry)) i j && bit en j) ⌝ }
+    ensures { λ r. ⌜ r ≡ some-below (interactions (now (plan .entry))) (λ j. below (now (plan .entry)) i j && bit enabled j) ⌝ }
 {
-    let at = bytes::field(plan, 34) + 8 * i;
-    bits::meets(bytes::u64_at(plan, at), en)
+    bits::meets(records::rank_row(plan, i), enabled)
 }
 
 // The interactions of the mask above which none of the mask lies; the bits of the mask from the lowest on.
-pub fn eligible_mask(plan: &[u8], en: u64) -> u64
+pub fn eligible_mask(plan: &[u8], enabled: u64) -> u64
     requires { ⌜ planRefusal (now plan) ≡ 0 ⌝ }
-    requires { ⌜ en < 2 ^ interactions (now plan) ⌝ }
-    ensures { λ r. ⌜ r ≡ standing (now (plan .entry)) en ⌝ }
+    requires { ⌜ enabled < 2 ^ interactions (now plan) ⌝ }
+    ensures { λ r. ⌜ r ≡ standing (now (plan .entry)) enabled ⌝ }
 {
-    let mut left = en;
+    let mut left = enabled;
     let mut out = 0;
     while left != 0 {
         let i = bits::lowest_bit(left);
-        if !is_outranked(plan, en, i) {
+        if !is_outranked(plan, enabled, i) {
             out = bits::with_bit(out, i);
         }
         left = bits::without_lowest(left);

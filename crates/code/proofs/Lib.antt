@@ -1,7 +1,5 @@
-pub mod MatchRest
 pub mod OperatorsHeld
 pub mod ReadBack
-pub mod Sections
 pub mod StackHeld
 pub mod TakenSpans
 pub mod Turns

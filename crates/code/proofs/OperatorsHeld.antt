@@ -2,7 +2,7 @@
 use mathlib.Core.Path.{_≡_, refl, sym, ap, ap₂, _∙_}
 use Prim.Native.Nat.{ℕ, zero, suc, _-_, _≤_, _<_}
 use native.Mathlib.Omega.{arith}
-use mathlib.Core.Bool.{Bool, true, false, not, _&&_, _||_}
+use mathlib.Core.Bool.{not, _&&_, _||_}
 use mathlib.Core.List.{List, [], _∷_}
 use lib.ListN.{getD, drop, List·getD-eq-default}
 use lib.IntN.{ℤ, pos}
@@ -11,12 +11,6 @@ use Rattle.semantics.specs.Signed.{add, subtract, equalZ, atLeast, holds, truth
 use Rattle.semantics.specs.Code.{operate, operatorPops}
 use Rattle.code.specs.Held.{held, combined}
 use Rattle.code.proofs.StackHeld.{replaced, joined, top-held, below-held}
-
--- an implication, as the code tests it
-pub implies-or : (a b : Bool) → (not a || b) ≡ implies a b
-unfolding implies
-implies-or true b = refl
-implies-or false b = refl
 
 -- no operator past 7 is known
 pub operate-past : (n : ℕ) (l r : ℤ) → 8 ≤ n → pos 0 ≡ operate n l r

@@ -1,18 +1,17 @@
 -- Spans that passed the checker: which spans of an accepted plan did, and what each of their words has.
 use mathlib.Core.Path.{_≡_, refl, sym, subst}
-use Prim.Native.Nat.{ℕ, zero, suc, _+_, _-_, _*_, _≤_, _<_}
+use Prim.Native.Nat.{ℕ, zero, suc, _+_, _-_, _≤_, _<_}
 use native.Mathlib.Nat.{le-trans}
 use native.Mathlib.Omega.{arith}
 use mathlib.Core.Bool.{Bool, true, false, cond, true≢false}
 use lib.ListN.{length}
-use Rattle.semantics.specs.Bytes.{u16}
-use Rattle.semantics.specs.Plan.{Plan, Span, spanAt, variables, transitions, interactions, propositions, codeWords, componentOf, guardOf, actionOf, interactionGuard, transferOf, propositionOf, section, word}
+use Rattle.semantics.specs.Plan.{Plan, Span, maxVariables, variables, transitions, interactions, propositions, codeWords, componentOf, guardOf, actionOf, interactionGuard, transferOf, propositionOf, word}
 use Rattle.semantics.specs.Code.{State, Instruction, push, extendTop, load, store, located, lastPort, operator, unknown, decode, operatorPops, ran, asGuard, asUpdate, asProposition, ownedBy, sharedIn, declared, allowed, pops, pushes, finalDepth, spanOk}
 use Rattle.semantics.specs.Rules.{planRefusal}
 use Rattle.semantics.proofs.Basics.{bool-cases, absurd-bool, each, leb-true, ltb-true}
 use Rattle.semantics.proofs.AcceptedPlan.{accepted-plan, guard-ok, action-ok, interaction-guard-ok, transfer-ok, proposition-ok}
 use Rattle.semantics.proofs.Spans.{Step, word-step, depth-low, ran-depth, span-step, span-end}
-use Rattle.code.specs.Laid.{Laid}
+use Rattle.layout.specs.Laid.{Laid}
 use Rattle.code.specs.Taken.{Taken, Fit}
 
 -- ---- which spans passed
@@ -91,11 +90,11 @@ module _ (p : Plan) (a : planRefusal p ≡ 0) where
       }
 
 -- a span whose record was read
-pub taken-read : (p : Plan) (end at start size : ℕ) → start ≡ u16 p at → size ≡ u16 p (at + 2) → Taken p end (spanAt p at)
+pub taken-read : (p : Plan) (end : ℕ) (g : Span) (start size : ℕ) → start ≡ g .start → size ≡ g .size → Taken p end g
     → Taken p end (record { start = start; size = size })
-taken-read p end at start size e f k =
+taken-read p end g start size e f k =
     subst (λ (x : ℕ). Taken p end (record { start = x; size = size })) (sym e)
-    (subst (λ (y : ℕ). Taken p end (record { start = u16 p at; size = y })) (sym f) k)
+    (subst (λ (y : ℕ). Taken p end (record { start = g .start; size = y })) (sym f) k)
 
 -- ---- what each of its words has
 
@@ -129,7 +128,7 @@ module _ (p : Plan) (l : Laid p) (end : ℕ) (g : Span) (k : Taken p end g) wher
   unfolding finalDepth
   looks-ends e = bool-cases (k .role .stores) (λ s. absurd-bool e (k .blind s)) (λ s. final-keeps (k .role .stores) end (k .ends-at) s)
 
-  named-low : (v : ℕ) → k .names v ≡ true → v < 64
+  named-low : (v : ℕ) → k .names v ≡ true → v < maxVariables
   named-low v e = le-trans (k .declared v e) (l .variables≤)
 
   -- a word that keeps the rules, at a depth of at most 8
@@ -142,19 +141,19 @@ module _ (p : Plan) (l : Laid p) (end : ℕ) (g : Span) (k : Taken p end g) wher
   word-fits (extendTop n) d e t h = (t .enough, h)
   word-fits (load n) d e t h = (named-low n (t .fits), omega (arith, t .after, t .low))
   word-fits (store n) d e t h =
-      let a = each _ (t .fits) in (stores-ends (a .0), named-low n (a .1 .0), t .enough, h)
+      let (stores, (named, _)) = each _ (t .fits) in (stores-ends stores, named-low n named, t .enough, h)
   word-fits (located c q) d e t h = (looks-ends (each _ (t .fits) .0), omega (arith, t .after, t .low))
   word-fits (lastPort c q) d e t h = (looks-ends (each _ (t .fits) .0), omega (arith, t .after, t .low))
   word-fits (operator n) d e t h =
       let b : n < 8 = ltb-true n 8 (t .fits) in (b, le-trans (operator-takes n b) (t .enough), t .enough, h)
   word-fits unknown d e t h = absurd (true≢false (sym (t .fits)))
 
-  -- word j of the span lies in the slice
-  pub word-inside : (j : ℕ) → j < g .size → section p 7 + 2 * (g .start + j) + 2 ≤ length p
+  -- word j of the span is a word of the plan
+  pub word-in : (j : ℕ) → j < g .size → g .start + j < codeWords p
   unfolding spanOk
-  word-inside j h =
-      let a : g .start + g .size ≤ codeWords p = leb-true _ _ (each _ (k .ok) .1 .0) in
-      omega (arith, l .code-in)
+  word-in j h =
+      let (_, (ends, _)) = each _ (k .ok) in
+      let e : g .start + g .size ≤ codeWords p = leb-true _ _ ends in omega arith
 
   -- it has what it needs where it stands
   pub word-fit : (s : State) (j : ℕ) → j < g .size → Fit end (decode (word p (g .start + j))) (length (ran p s (g .start) j .stack))

@@ -5,6 +5,7 @@ use mathlib.Core.List.{List, [], _∷_}
 use lib.ListN.{getD, set, drop, List·getD-eq-default}
 use lib.Dec.{eqb}
 use lib.IntN.{ℤ, pos}
+use Rattle.semantics.specs.Plan.{maxVariables}
 use Rattle.semantics.specs.Signed.{extend, truth}
 use Rattle.semantics.specs.Code.{State, Instruction, push, extendTop, load, store, located, lastPort, operator, unknown, instruction, operatorPops, Machine, perform}
 use Rattle.code.specs.Taken.{Fit}
@@ -24,11 +25,11 @@ module _ (end k n d : ℕ) where
   unfolding instruction
   fit-extend e f = fit-at 1 e f
 
-  pub fit-load : k ≡ 2 → Fit end (instruction k n) d → (n < 64) × (d < 8)
+  pub fit-load : k ≡ 2 → Fit end (instruction k n) d → (n < maxVariables) × (d < 8)
   unfolding instruction
   fit-load e f = fit-at 2 e f
 
-  pub fit-store : k ≡ 3 → Fit end (instruction k n) d → (end ≡ 0) × (n < 64) × (0 < d) × (d ≤ 8)
+  pub fit-store : k ≡ 3 → Fit end (instruction k n) d → (end ≡ 0) × (n < maxVariables) × (0 < d) × (d ≤ 8)
   unfolding instruction
   fit-store e f = fit-at 3 e f
 

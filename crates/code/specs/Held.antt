@@ -1,12 +1,9 @@
--- What the evaluator's arrays stand for: a state, and a machine whose stack is a lent array, a depth and the top.
+-- What the evaluator's arrays stand for: a machine whose stack is a lent array, a depth and the top.
 use Prim.Native.Nat.{ℕ, zero, suc}
 use mathlib.Core.List.{List, [], _∷_}
 use lib.ListN.{getD, drop}
 use lib.IntN.{ℤ, pos}
-use Rattle.semantics.specs.Code.{State, operate, operatorPops, Machine, top}
-
-abbrev pub site : List ℕ → List ℕ → List ℤ → State
-site l q vs = record { locations = l; lastPorts = q; values = vs }
+use Rattle.semantics.specs.Code.{operate, operatorPops, Machine, top}
 
 -- The d values below the top, the upper one first: the lowest lies at place 1 of the array.
 unfoldable pub under : List ℤ → ℕ → List ℤ

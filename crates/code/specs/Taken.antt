@@ -2,7 +2,7 @@
 use mathlib.Core.Path.{_≡_}
 use Prim.Native.Nat.{ℕ, _≤_, _<_}
 use mathlib.Core.Bool.{Bool, true, false}
-use Rattle.semantics.specs.Plan.{Plan, Span, variables}
+use Rattle.semantics.specs.Plan.{Plan, Span, maxVariables, variables}
 use Rattle.semantics.specs.Code.{Instruction, push, extendTop, load, store, located, lastPort, operator, unknown, operatorPops, Role, finalDepth, spanOk}
 
 -- The span keeps the rules of some role, which ends at the depth `end`: 1 for a guard or a proposition, 0 for an action or a transfer.
@@ -21,8 +21,8 @@ pub record Taken (p : Plan) (end : ℕ) (g : Span) : Type 0 where
 abbrev pub Fit : ℕ → Instruction → ℕ → Type 0
 Fit end (push n) d = d < 8
 Fit end (extendTop n) d = (0 < d) × (d ≤ 8)
-Fit end (load n) d = (n < 64) × (d < 8)
-Fit end (store n) d = (end ≡ 0) × (n < 64) × (0 < d) × (d ≤ 8)
+Fit end (load n) d = (n < maxVariables) × (d < 8)
+Fit end (store n) d = (end ≡ 0) × (n < maxVariables) × (0 < d) × (d ≤ 8)
 Fit end (located c l) d = (end ≡ 1) × (d < 8)
 Fit end (lastPort c q) d = (end ≡ 1) × (d < 8)
 Fit end (operator n) d = (n < 8) × (0 < d) × (operatorPops n ≤ d) × (d ≤ 8)

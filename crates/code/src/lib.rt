@@ -1,3 +1,5 @@
-// Code words: the word split, the checker of a span and the evaluator.
+// Code words: the word split, the stack, the operators and the evaluator.
 pub mod eval;
+mod operators;
+mod stack;
 pub mod word;

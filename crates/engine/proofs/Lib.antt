@@ -1,5 +1,4 @@
 pub mod CallLaws
-pub mod ExaminedLaws
 pub mod MarkLaws
+pub mod ReadLaws
 pub mod Refusals
-pub mod RunLaws

@@ -1,57 +1,80 @@
--- Marks: each on an eligible interaction that ends bad.
-use mathlib.Core.Path.{_≡_, refl, sym, ap, _∙_}
-use Prim.Native.Nat.{ℕ, _<_}
-use mathlib.Core.Bool.{Bool, true, false, not, _&&_}
-use lib.Dec.{ltb}
-use Rattle.semantics.specs.Bytes.{allOf, implies, every, bit, mask}
-use Rattle.semantics.specs.Plan.{Plan, interactions}
-use Rattle.semantics.specs.Code.{State}
+-- Marks: each on an eligible interaction that ends bad. The code tests that all lie on eligible ones, and then that a search among them finds no good one.
+use mathlib.Core.Path.{_≡_, sym, ap, _∙_}
+use Prim.Native.Nat.{ℕ, _^_, _≤_, _<_}
+use native.Mathlib.Nat.{le-trans}
+use mathlib.Core.Bool.{Bool, true, false, not}
+use mathlib.Core.List.{[], _∷_}
+use lib.Dec.{leb, ltb}
+use Rattle.semantics.specs.Bytes.{allOf, implies, every, lowest, bit, mask}
+use Rattle.semantics.specs.Plan.{Plan, maxInteractions, interactions}
 use Rattle.semantics.specs.Move.{Configuration, enabled, eligible, after, good}
 use Rattle.semantics.specs.Image.{markOk, marksOk}
-use Rattle.semantics.proofs.Basics.{bool-cases, absurd-bool, implies-yes, implies-at, each, ltb-true, ltb-false, lt-ltb, every-at, every-all}
-use Rattle.semantics.proofs.Masks.{bit-mask, bit-mask-over}
-use Rattle.words.proofs.MaskWalk.{walk-start, walk-done}
+use Rattle.semantics.proofs.Basics.{bool-cases, absurd-bool, implies-yes, implies-at, each, all-of, leb-true, leb-false, ltb-true, ltb-false, lt-ltb, le-ltb, every-at, every-all, lowest-is, lowest-none}
+use Rattle.semantics.proofs.Masks.{bit-mask, bit-zero, mask-holds}
+use Rattle.semantics.proofs.LawfulImage.{marks-kept}
+use Rattle.words.proofs.BitLaws.{bit-above}
+use Rattle.semantics.proofs.Ranking.{eligible-enabled, bad-uncommitted}
 
--- a bit of a mask of n tests is below n, and its test holds
-pub mask-holds : (n : ℕ) (f : ℕ → Bool) (j : ℕ) → bit (mask n f) j ≡ true → (j < n) × (f j ≡ true)
-mask-holds n f j e =
-    bool-cases (ltb j n) (λ l. (ltb-true j n l, sym (bit-mask n f j (ltb-true j n l)) ∙ e))
-    (λ l. absurd-bool e (bit-mask-over n f j (ltb-false j n l)))
-
-pub eligible-enabled : (p : Plan) (s : State) (i : ℕ) → eligible p s i ≡ true → enabled p s i ≡ true
-unfolding eligible
-eligible-enabled p s i e = each _ e .0
-
-and-true : (b : Bool) → (b && true) ≡ b
-and-true true = refl
-and-true false = refl
-
--- a mark on an eligible interaction is kept where the move ends bad
-pub mark-is : (p : Plan) (c : Configuration) (i : ℕ) → i < interactions p → eligible p (c .state) i ≡ true → markOk p c i ≡ not (good p (after p c i))
-unfolding markOk allOf
-mark-is p c i h e = rw (lt-ltb i (interactions p) h, e) (and-true (not (good p (after p c i))))
+-- a number of a 64-bit mask is below 64
+pub bit-below : (m j : ℕ) → m < 2 ^ 64 → bit m j ≡ true → j < maxInteractions
+bit-below m j h t = bool-cases (ltb j 64) (λ l. ltb-true j 64 l) (λ l. absurd-bool t (bit-above 64 m j h (ltb-false j 64 l)))
 
 -- where there are no marks, all are kept
 pub no-marks : (p : Plan) (c : Configuration) (m : ℕ) → m ≡ 0 → marksOk p c m ≡ true
 unfolding marksOk
-no-marks p c m e = walk-done 64 m (markOk p c) m (walk-start m (markOk p c)) e
+no-marks p c m e =
+    every-all maxInteractions (λ i. implies (bit m i) (markOk p c i))
+    (λ i l. implies-yes (bit m i) (markOk p c i) (λ b. absurd-bool b (ap (λ (n : ℕ). bit n i) e ∙ bit-zero i)))
 
 -- the marks m against e, the mask of the eligible interactions
 module _ (p : Plan) (c : Configuration) (m e : ℕ) (q : e ≡ mask (interactions p) (eligible p (c .state))) where
-  -- all of m is in e: each mark is on an eligible interaction
-  pub marks-inside : every 64 (λ j. implies (bit m j) (bit e j)) ≡ true → (j : ℕ) → j < 64 → bit m j ≡ true
-      → (j < interactions p) × (eligible p (c .state) j ≡ true)
-  marks-inside h j l s =
-      mask-holds (interactions p) (eligible p (c .state)) j
-      (ap (λ (x : ℕ). bit x j) (sym q) ∙ implies-at (bit m j) (bit e j) (every-at 64 (λ k. implies (bit m k) (bit e k)) h j l) s)
-
-  -- not all of it is
-  pub marks-outside : every 64 (λ j. implies (bit m j) (bit e j)) ≡ false → marksOk p c m ≡ false
-  unfolding marksOk markOk
+  -- not all of m is in e
+  pub marks-outside : every maxInteractions (λ j. implies (bit m j) (bit e j)) ≡ false → marksOk p c m ≡ false
   marks-outside h =
       bool-cases (marksOk p c m)
-      (λ k. absurd-bool (every-all 64 (λ j. implies (bit m j) (bit e j)) (λ j l.
+      (λ k. absurd-bool (every-all maxInteractions (λ j. implies (bit m j) (bit e j)) (λ j l.
       implies-yes (bit m j) (bit e j) (λ s.
-      let a = each _ (implies-at (bit m j) (markOk p c j) (every-at 64 (λ i. implies (bit m i) (markOk p c i)) k j l) s) in
-      ap (λ (x : ℕ). bit x j) q ∙ bit-mask (interactions p) (eligible p (c .state)) j (ltb-true j (interactions p) (a .0)) ∙ a .1 .0))) h)
+      let a = marks-kept p c m k j l s in
+      ap (λ (x : ℕ). bit x j) q ∙ bit-mask (interactions p) (eligible p (c .state)) j (a .number<) ∙ a .is-eligible))) h)
       (λ k. k)
+
+  -- all of m is in e: each mark is on an eligible interaction
+  module _ (h : every maxInteractions (λ j. implies (bit m j) (bit e j)) ≡ true) where
+    marked-eligible : (j : ℕ) → j < maxInteractions → bit m j ≡ true → (j < interactions p) × (eligible p (c .state) j ≡ true)
+    marked-eligible j l s =
+        mask-holds (interactions p) (eligible p (c .state)) j
+        (ap (λ (x : ℕ). bit x j) (sym q) ∙ implies-at (bit m j) (bit e j) (every-at maxInteractions (λ k. implies (bit m k) (bit e k)) h j l) s)
+
+    pub marked-enabled : (j : ℕ) → j < maxInteractions → bit m j ≡ true → (j < interactions p) × (enabled p (c .state) j ≡ true)
+    marked-enabled j l s = let (n, a) = marked-eligible j l s in (n, eligible-enabled p (c .state) j a)
+
+    -- what a search among the marks looks for
+    abbrev sought : ℕ → Bool
+    sought j = allOf (bit m j ∷ good p (after p c j) ∷ [])
+
+    -- it finds none
+    marks-bad : interactions p ≤ lowest (interactions p) sought → marksOk p c m ≡ true
+    unfolding marksOk markOk
+    marks-bad n =
+        every-all maxInteractions (λ i. implies (bit m i) (markOk p c i))
+        (λ i l. implies-yes (bit m i) (markOk p c i) (λ b.
+        let (k, a) = marked-eligible i l b in
+        all-of _ (lt-ltb i (interactions p) k, (a, (ap not (bad-uncommitted p c i (bad i k b)), tt)))))
+      where
+        bad : (i : ℕ) → i < interactions p → bit m i ≡ true → good p (after p c i) ≡ false
+        bad i k b =
+            bool-cases (good p (after p c i))
+            (λ g. absurd-bool (all-of (bit m i ∷ good p (after p c i) ∷ []) (b, (g, tt))) (lowest-none (interactions p) sought (le-ltb _ _ n) i k))
+            (λ g. g)
+
+    -- it finds one
+    marks-good : interactions p ≤ maxInteractions → lowest (interactions p) sought < interactions p → marksOk p c m ≡ false
+    marks-good few l =
+        let i = lowest (interactions p) sought in
+        let (b, (g, _)) = each _ (lowest-is (interactions p) sought .hit l) in
+        bool-cases (marksOk p c m) (λ k. absurd-bool g (marks-kept p c m k i (le-trans l few) b .ends-bad)) (λ k. k)
+
+    pub marks-searched : interactions p ≤ maxInteractions → leb (interactions p) (lowest (interactions p) sought) ≡ marksOk p c m
+    marks-searched few =
+        bool-cases (leb (interactions p) (lowest (interactions p) sought)) (λ l. l ∙ sym (marks-bad (leb-true _ _ l)))
+        (λ l. l ∙ sym (marks-good few (leb-false _ _ l)))

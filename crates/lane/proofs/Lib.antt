@@ -1,5 +1,1 @@
-pub mod Every
-pub mod Filling
-pub mod Heads
-pub mod Rows
 pub mod Writing

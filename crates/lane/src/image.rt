@@ -1,103 +1,93 @@
 // The keeper's tests of an image: its head, and the configuration that it holds.
 use arith::tests::equal;
-use words::bytes::field;
+use layout::header::component_byte;
+use layout::header::components;
+use layout::header::interaction_byte;
+use layout::header::number_byte;
+use layout::header::variable_byte;
+use layout::header::variables;
+use layout::image::COMPONENTS;
+use layout::image::FORM;
+use layout::image::INTERACTIONS;
+use layout::image::PLAN_NUMBER;
+use layout::image::RESERVED;
+use layout::image::VARIABLES;
+use layout::records::PORTS;
+use layout::records::component_at;
+use oracle::row::good;
+use oracle::row::in_range;
 use words::bytes::tagged;
-use words::bytes::wide;
 ghost use mathlib.Core.Path.{_≡_};
-ghost use mathlib.Core.Bool.{not, _&&_};
-ghost use Prim.Native.Nat.{_+_, _≤_, _<_};
+ghost use mathlib.Core.Bool.{_&&_};
+ghost use Prim.Native.Nat.{_<_};
 ghost use mathlib.Core.List.{[], _∷_};
 ghost use lib.ListN.{length};
 ghost use lib.Dec.{eqb};
 ghost use Rattle.semantics.specs.Bytes.{byte, allOf, every};
-ghost use Rattle.semantics.specs.Plan.{letters, oracleStates, oracleAt, verdict};
+ghost use Rattle.semantics.specs.Plan.{maxComponents, maxVariables, components, variables, interactions, numberByte};
 ghost use Rattle.semantics.specs.Rules.{planRefusal};
-ghost use Rattle.semantics.specs.Image.{headMatches, locationOk, lastPortOk, valueOk, configurationOk};
-ghost use Rattle.lane.specs.Runs.{site, placed, valued};
+ghost use Rattle.semantics.specs.Code.{site, valued};
+ghost use Rattle.semantics.specs.Image.{imageLength, headMatches, locationOk, lastPortOk, valueOk, configurationOk};
+ghost use Rattle.layout.specs.Laid.{Laid};
+ghost use Rattle.lane.specs.Runs.{placed};
 
-// Whether an image's counts are the plan's bytes 10, 12 and 16: each count is below 256.
+// Whether an image's counts are the plan's.
 fn counts_match(plan: &[u8], image: &[u8]) -> bool
-    requires { ⌜ 48 ≤ length (now plan) ⌝ }
-    requires { ⌜ length (now image) ≡ 312 ⌝ }
+    requires { ⌜ Laid (now plan) ⌝ }
+    requires { ⌜ length (now image) ≡ imageLength ⌝ }
     ensures { λ r.
         ⌜ r
-        ≡ allOf (eqb (byte (now (image .entry)) 5) (byte (now (plan .entry)) 10)
-        ∷ eqb (byte (now (image .entry)) 6) (byte (now (plan .entry)) 12)
-        ∷ eqb (byte (now (image .entry)) 7) (byte (now (plan .entry)) 16) ∷ []) ⌝ }
+        ≡ allOf (eqb (byte (now (image .entry)) 5) (components (now (plan .entry)))
+        ∷ eqb (byte (now (image .entry)) 6) (variables (now (plan .entry)))
+        ∷ eqb (byte (now (image .entry)) 7) (interactions (now (plan .entry))) ∷ []) ⌝ }
 {
-    (image[5] == plan[10]) & (image[6] == plan[12]) & (image[7] == plan[16])
+    (image[COMPONENTS] == component_byte(plan))
+        & (image[VARIABLES] == variable_byte(plan))
+        & (image[INTERACTIONS] == interaction_byte(plan))
 }
 
 // Whether an image's plan number is the plan's.
 fn number_matches(plan: &[u8], image: &[u8]) -> bool
-    requires { ⌜ 48 ≤ length (now plan) ⌝ }
-    requires { ⌜ length (now image) ≡ 312 ⌝ }
+    requires { ⌜ Laid (now plan) ⌝ }
+    requires { ⌜ length (now image) ≡ imageLength ⌝ }
     ensures { λ r.
         ⌜ r
-        ≡ allOf (eqb (byte (now (image .entry)) 12) (byte (now (plan .entry)) 4)
-        ∷ eqb (byte (now (image .entry)) 13) (byte (now (plan .entry)) 5)
-        ∷ eqb (byte (now (image .entry)) 14) (byte (now (plan .entry)) 6)
-        ∷ eqb (byte (now (image .entry)) 15) (byte (now (plan .entry)) 7) ∷ []) ⌝ }
+        ≡ allOf (eqb (byte (now (image .entry)) 12) (numberByte (now (plan .entry)) 0)
+        ∷ eqb (byte (now (image .entry)) 13) (numberByte (now (plan .entry)) 1)
+        ∷ eqb (byte (now (image .entry)) 14) (numberByte (now (plan .entry)) 2)
+        ∷ eqb (byte (now (image .entry)) 15) (numberByte (now (plan .entry)) 3) ∷ []) ⌝ }
 {
-    (image[12] == plan[4])
-        & (image[13] == plan[5])
-        & (image[14] == plan[6])
-        & (image[15] == plan[7])
+    (image[PLAN_NUMBER] == number_byte(plan, 0))
+        & (image[PLAN_NUMBER + 1] == number_byte(plan, 1))
+        & (image[PLAN_NUMBER + 2] == number_byte(plan, 2))
+        & (image[PLAN_NUMBER + 3] == number_byte(plan, 3))
 }
 
-// Whether the head of an image is the plan's: bytes 0 to 7 and 9 to 15.
+// Whether the head of an image is the plan's: its first sixteen bytes but the oracle state.
 pub fn head_matches(plan: &[u8], image: &[u8]) -> bool
     requires { ⌜ planRefusal (now plan) ≡ 0 ⌝ }
-    requires { ⌜ length (now image) ≡ 312 ⌝ }
+    requires { ⌜ length (now image) ≡ imageLength ⌝ }
     ensures { λ r. ⌜ r ≡ headMatches (now (plan .entry)) (now (image .entry)) ⌝ }
 {
     tagged(image, b"YARD")
-        & (image[4] == 1)
+        & (image[FORM] == 1)
         & counts_match(plan, image)
-        & (image[9] == 0)
-        & (image[10] == 0)
-        & (image[11] == 0)
+        & (image[RESERVED] == 0)
+        & (image[RESERVED + 1] == 0)
+        & (image[RESERVED + 2] == 0)
         & number_matches(plan, image)
-}
-
-// How many letters there are.
-fn letters(plan: &[u8]) -> usize
-    requires { ⌜ planRefusal (now plan) ≡ 0 ⌝ }
-    ensures { λ r. ⌜ (r ≡ letters (now (plan .entry))) × (r ≤ 16) ⌝ }
-{
-    1usize << field(plan, 18)
-}
-
-// The place of an oracle state's row.
-pub fn oracle_at(plan: &[u8], oracle: u8) -> usize
-    requires { ⌜ planRefusal (now plan) ≡ 0 ⌝ }
-    requires { ⌜ oracle < oracleStates (now plan) ⌝ }
-    ensures { λ r. ⌜ (r ≡ oracleAt (now (plan .entry)) oracle)
-        × (r + (1 + letters (now (plan .entry))) ≤ length (now (plan .entry))) ⌝ }
-{
-    field(plan, 38) + (1 + letters(plan)) * wide(oracle)
-}
-
-// Whether an oracle state is good: its verdict is not 0.
-pub fn good(plan: &[u8], oracle: u8) -> bool
-    requires { ⌜ planRefusal (now plan) ≡ 0 ⌝ }
-    requires { ⌜ oracle < oracleStates (now plan) ⌝ }
-    ensures { λ r. ⌜ r ≡ not (eqb (verdict (now (plan .entry)) oracle) 0) ⌝ }
-{
-    let at = oracle_at(plan, oracle);
-    plan[at] != 0
 }
 
 // Whether component c's location and last port are in range, or unused where the plan has no component c.
 fn component_ok<'a>(plan: &[u8], locations: &'a [u8; 16], ports: &'a [u8; 16], c: usize) -> bool
     requires { ⌜ planRefusal (now plan) ≡ 0 ⌝ }
-    requires { ⌜ c < 16 ⌝ }
+    requires { ⌜ c < maxComponents ⌝ }
     ensures { λ r. ⌜ r ≡ (locationOk (now (plan .entry)) (placed (now (locations .entry)) (now (ports .entry))) c
         && lastPortOk (now (plan .entry)) (placed (now (locations .entry)) (now (ports .entry))) c) ⌝ }
 {
-    if c < field(plan, 10) {
-        let at = field(plan, 26) + 4 * c;
-        (locations[c] < plan[at]) & ((ports[c] == 255) | (ports[c] < plan[at + 2]))
+    if c < components(plan) {
+        let at = component_at(plan, c);
+        (locations[c] < plan[at]) & ((ports[c] == 255) | (ports[c] < plan[at + PORTS]))
     } else {
         (locations[c] == 0) & (ports[c] == 255)
     }
@@ -106,8 +96,8 @@ fn component_ok<'a>(plan: &[u8], locations: &'a [u8; 16], ports: &'a [u8; 16], c
 // Whether all sixteen locations and last ports are in range, or unused.
 fn components_ok<'a>(plan: &[u8], locations: &'a [u8; 16], ports: &'a [u8; 16]) -> bool
     requires { ⌜ planRefusal (now plan) ≡ 0 ⌝ }
-    ensures { λ r. ⌜ r ≡ (every 16 (locationOk (now (plan .entry)) (placed (now (locations .entry)) (now (ports .entry))))
-        && every 16 (lastPortOk (now (plan .entry)) (placed (now (locations .entry)) (now (ports .entry))))) ⌝ }
+    ensures { λ r. ⌜ r ≡ (every maxComponents (locationOk (now (plan .entry)) (placed (now (locations .entry)) (now (ports .entry))))
+        && every maxComponents (lastPortOk (now (plan .entry)) (placed (now (locations .entry)) (now (ports .entry))))) ⌝ }
 {
     let mut ok = true;
     for c in 0..16 {
@@ -119,10 +109,10 @@ fn components_ok<'a>(plan: &[u8], locations: &'a [u8; 16], ports: &'a [u8; 16]) 
 // Whether the values past the last variable are zero.
 fn values_ok(plan: &[u8], values: &[i32; 64]) -> bool
     requires { ⌜ planRefusal (now plan) ≡ 0 ⌝ }
-    ensures { λ r. ⌜ r ≡ every 64 (valueOk (now (plan .entry)) (valued (now (values .entry)))) ⌝ }
+    ensures { λ r. ⌜ r ≡ every maxVariables (valueOk (now (plan .entry)) (valued (now (values .entry)))) ⌝ }
 {
     let mut ok = true;
-    let count = field(plan, 12);
+    let count = variables(plan);
     for v in count..64 {
         ok = ok & equal(values[v], 0);
     }
@@ -138,9 +128,12 @@ pub fn configuration_ok<'a>(
     oracle: u8,
 ) -> bool
     requires { ⌜ planRefusal (now plan) ≡ 0 ⌝ }
-    ensures { λ r. ⌜ r ≡ configurationOk (now (plan .entry)) (record { state = site (now (locations .entry)) (now (ports .entry)) (now (values .entry)); oracle = oracle }) ⌝ }
+    ensures { λ r.
+        ⌜ r
+        ≡ configurationOk (now (plan .entry))
+        (record { state = site (now (locations .entry)) (now (ports .entry)) (now (values .entry)); oracle = oracle }) ⌝ }
 {
-    if wide(oracle) < field(plan, 20) {
+    if in_range(plan, oracle) {
         good(plan, oracle) & components_ok(plan, locations, ports) & values_ok(plan, values)
     } else {
         false

@@ -1,7 +1,24 @@
 // The run record, and its passage from an image and back.
 use arith::bytes::i32_at;
 use arith::bytes::put_i32;
-use words::bytes::field;
+use layout::header::component_byte;
+use layout::header::components;
+use layout::header::first_oracle_byte;
+use layout::header::interaction_byte;
+use layout::header::number_byte;
+use layout::header::variable_byte;
+use layout::header::variables;
+use layout::image::FORM;
+use layout::image::LAST_PORTS;
+use layout::image::LENGTH;
+use layout::image::LOCATIONS;
+use layout::image::MARKS;
+use layout::image::ORACLE;
+use layout::image::value_at;
+use layout::records::START_LOCATION;
+use layout::records::START_VALUE;
+use layout::records::component_at;
+use layout::records::variable_at;
 use words::bytes::put_bytes;
 use words::bytes::put_u64;
 use words::bytes::u64_at;
@@ -9,11 +26,11 @@ ghost use mathlib.Core.Path.{_≡_};
 ghost use Prim.Native.Nat.{_+_, _≤_};
 ghost use lib.ListN.{length, take, drop};
 ghost use Rattle.words.specs.Splice.{splice};
-ghost use Rattle.semantics.specs.Plan.{firstOracle};
+ghost use Rattle.semantics.specs.Plan.{maxComponents, maxVariables, firstOracle};
 ghost use Rattle.semantics.specs.Rules.{planRefusal};
 ghost use Rattle.semantics.specs.Move.{initialState};
-ghost use Rattle.semantics.specs.Image.{head, valueBytes, withMarks, configurationOf, marksOf, image as imageOf};
-ghost use Rattle.lane.specs.Runs.{runOf, configurationIn};
+ghost use Rattle.semantics.specs.Image.{imageLength, valuePlace, head, valueBytes, withMarks, configurationOf, marksOf, image as imageOf};
+ghost use Rattle.lane.specs.Runs.{runOf, lent, Sized, blankRun, loaded};
 
 // Where a run stands: each component's location and last port, the variables, the oracle state, the moves crossed off.
 pub struct Run {
@@ -26,8 +43,8 @@ pub struct Run {
 
 // The sixteen bytes from a place on.
 fn bytes16(image: &[u8], at: usize) -> [u8; 16]
-    requires { ⌜ at + 16 ≤ length (now image) ⌝ }
-    ensures { λ r. ⌜ r ≡ take 16 (drop at (now (image .entry))) ⌝ }
+    requires { ⌜ at + maxComponents ≤ length (now image) ⌝ }
+    ensures { λ r. ⌜ r ≡ take maxComponents (drop at (now (image .entry))) ⌝ }
 {
     let mut out = [0u8; 16];
     for i in 0..16 {
@@ -38,87 +55,118 @@ fn bytes16(image: &[u8], at: usize) -> [u8; 16]
 
 // The sixty-four values of an image.
 fn values64(image: &[u8]) -> [i32; 64]
-    requires { ⌜ length (now image) ≡ 312 ⌝ }
+    requires { ⌜ length (now image) ≡ imageLength ⌝ }
     ensures { λ r. ⌜ r ≡ configurationOf (now (image .entry)) .state .values ⌝ }
 {
     let mut out = [0i32; 64];
     for v in 0..64 {
-        out[v] = i32_at(image, 56 + 4 * v);
+        out[v] = i32_at(image, value_at(v));
     }
     out
 }
 
-// The run that an image holds.
-pub fn load(image: &[u8]) -> Run
-    requires { ⌜ length (now image) ≡ 312 ⌝ }
+// The run that an image of the right length holds.
+fn unpacked(image: &[u8]) -> Run
+    requires { ⌜ length (now image) ≡ imageLength ⌝ }
     ensures { λ r. ⌜ r ≡ runOf (configurationOf (now (image .entry))) (marksOf (now (image .entry))) ⌝ }
 {
-    let locations = bytes16(image, 24);
-    let last_ports = bytes16(image, 40);
+    let locations = bytes16(image, LOCATIONS);
+    let last_ports = bytes16(image, LAST_PORTS);
     let values = values64(image);
     Run {
         locations: locations,
         last_ports: last_ports,
         values: values,
-        oracle: image[8],
-        marks: u64_at(image, 16),
+        oracle: image[ORACLE],
+        marks: u64_at(image, MARKS),
     }
 }
 
-// Writes the first sixteen bytes of an image. A plan's counts are its bytes 10, 12 and 16: each is below 256.
+// No run.
+pub fn blank() -> Run
+    ensures { λ r. ⌜ r ≡ blankRun ⌝ }
+{
+    Run {
+        locations: [0; 16],
+        last_ports: [0; 16],
+        values: [0; 64],
+        oracle: 0,
+        marks: 0,
+    }
+}
+
+// The run that an image holds; no run where it has not an image's length.
+pub fn load(image: &[u8]) -> Run
+    ensures { λ r. ⌜ r ≡ loaded (now (image .entry)) ⌝ }
+{
+    if image.len() != LENGTH {
+        return blank();
+    }
+    unpacked(image)
+}
+
+// Writes the first sixteen bytes of an image.
 fn put_head(plan: &[u8], image: &mut [u8], oracle: u8)
     requires { ⌜ planRefusal (now plan) ≡ 0 ⌝ }
-    requires { ⌜ length (now image) ≡ 312 ⌝ }
+    requires { ⌜ length (now image) ≡ imageLength ⌝ }
     ensures { λ r. ⌜ now (image .exit) ≡ splice (now (image .entry)) 0 (head (now (plan .entry)) oracle) ⌝ }
 {
     let rest = [
         1,
-        plan[10],
-        plan[12],
-        plan[16],
+        component_byte(plan),
+        variable_byte(plan),
+        interaction_byte(plan),
         oracle,
         0,
         0,
         0,
-        plan[4],
-        plan[5],
-        plan[6],
-        plan[7],
+        number_byte(plan, 0),
+        number_byte(plan, 1),
+        number_byte(plan, 2),
+        number_byte(plan, 3),
     ];
     put_bytes(image, 0, b"YARD");
-    put_bytes(image, 4, &rest);
+    put_bytes(image, FORM, &rest);
 }
 
 // Writes the values of an image.
 fn put_values(image: &mut [u8], values: &[i32; 64])
-    requires { ⌜ length (now image) ≡ 312 ⌝ }
-    requires { ⌜ length (now values) ≡ 64 ⌝ }
-    ensures { λ r. ⌜ now (image .exit) ≡ splice (now (image .entry)) 56 (valueBytes (now (values .entry))) ⌝ }
+    requires { ⌜ length (now image) ≡ imageLength ⌝ }
+    requires { ⌜ length (now values) ≡ maxVariables ⌝ }
+    ensures { λ r. ⌜ now (image .exit) ≡ splice (now (image .entry)) (valuePlace 0) (valueBytes (now (values .entry))) ⌝ }
 {
     for v in 0..64 {
-        put_i32(image, 56 + 4 * v, values[v]);
+        put_i32(image, value_at(v), values[v]);
     }
 }
 
-// Writes the image of a run, with these moves crossed off and not the run's own.
-pub fn store(plan: &[u8], image: &mut [u8], run: Run, crossed: u64)
+// Writes the image of a configuration, with these moves crossed off.
+pub fn store<'a>(
+    plan: &[u8],
+    image: &mut [u8],
+    locations: &'a [u8; 16],
+    ports: &'a [u8; 16],
+    values: &'a [i32; 64],
+    oracle: u8,
+    crossed: u64,
+)
     requires { ⌜ planRefusal (now plan) ≡ 0 ⌝ }
-    requires { ⌜ length (now image) ≡ 312 ⌝ }
-    ensures { λ r. ⌜ now (image .exit) ≡ imageOf (now (plan .entry)) (configurationIn run) crossed ⌝ }
+    requires { ⌜ (length (now image) ≡ imageLength) × Sized (now locations) (now ports) (now values) ⌝ }
+    ensures { λ r. ⌜ now (image .exit) ≡ imageOf (now (plan .entry)) (lent (now (locations .entry)) (now (ports .entry)) (now (values .entry)) oracle) crossed ⌝ }
 {
-    put_head(plan, image, run.oracle);
-    put_u64(image, 16, crossed);
-    put_bytes(image, 24, &run.locations);
-    put_bytes(image, 40, &run.last_ports);
-    put_values(image, &run.values);
+    put_head(plan, image, oracle);
+    put_u64(image, MARKS, crossed);
+    put_bytes(image, LOCATIONS, locations);
+    put_bytes(image, LAST_PORTS, ports);
+    put_values(image, values);
 }
 
 // Writes the marks of an image, eight bytes and no other.
 pub fn put_marks(image: &mut [u8], marks: u64)
-    requires { ⌜ length (now image) ≡ 312 ⌝ }
+    requires { ⌜ length (now image) ≡ imageLength ⌝ }
     ensures { λ r. ⌜ now (image .exit) ≡ withMarks (now (image .entry)) marks ⌝ }
 {
-    put_u64(image, 16, marks);
+    put_u64(image, MARKS, marks);
 }
 
 // Each component's starting location, 0 past the last component.
@@ -126,11 +174,10 @@ fn start_locations(plan: &[u8]) -> [u8; 16]
     requires { ⌜ planRefusal (now plan) ≡ 0 ⌝ }
     ensures { λ r. ⌜ r ≡ initialState (now (plan .entry)) .locations ⌝ }
 {
-    let count = field(plan, 10);
-    let at = field(plan, 26);
+    let count = components(plan);
     let mut out = [0u8; 16];
     for c in 0..count {
-        out[c] = plan[at + 4 * c + 1];
+        out[c] = plan[component_at(plan, c) + START_LOCATION];
     }
     out
 }
@@ -140,11 +187,10 @@ fn start_values(plan: &[u8]) -> [i32; 64]
     requires { ⌜ planRefusal (now plan) ≡ 0 ⌝ }
     ensures { λ r. ⌜ r ≡ initialState (now (plan .entry)) .values ⌝ }
 {
-    let count = field(plan, 12);
-    let at = field(plan, 28);
+    let count = variables(plan);
     let mut out = [0i32; 64];
     for v in 0..count {
-        out[v] = i32_at(plan, at + 8 * v + 4);
+        out[v] = i32_at(plan, variable_at(plan, v) + START_VALUE);
     }
     out
 }
@@ -156,7 +202,7 @@ pub fn starting(plan: &[u8]) -> Run
 {
     let locations = start_locations(plan);
     let values = start_values(plan);
-    let oracle = field(plan, 22) as u8;
+    let oracle = first_oracle_byte(plan);
     Run {
         locations: locations,
         last_ports: [255; 16],

@@ -4,25 +4,25 @@ use Prim.Native.Nat.{ℕ, zero, suc, _+_, _*_, _<_}
 use mathlib.Core.Bool.{Bool, true, cond}
 use mathlib.Core.List.{List}
 use lib.ListN.{getD, set}
-use Rattle.semantics.specs.Plan.{Plan, transitions, actionOf, portIn, takesPart}
+use Rattle.semantics.specs.Plan.{Plan, maxComponents, transitions, actionOf, portIn, takesPart}
 use Rattle.semantics.specs.Code.{State, acted}
 
 -- The transition that the table has for component c in interaction i.
-abbrev pub picked : Plan → List ℕ → ℕ → ℕ → ℕ
-picked p picks i c = getD picks (16 * c + portIn p i c) 0
+abbrev pub chosenBy : Plan → List ℕ → ℕ → ℕ → ℕ
+chosenBy p chosen i c = getD chosen (16 * c + portIn p i c) 0
 
 -- The table has a transition for each component that takes part in interaction i.
-pub record Picked (p : Plan) (picks : List ℕ) (i : ℕ) : Type 0 where
-  pub known : (c : ℕ) → c < 16 → takesPart p i c ≡ true → picked p picks i c < transitions p
+pub record AllChosen (p : Plan) (chosen : List ℕ) (i : ℕ) : Type 0 where
+  pub known : (c : ℕ) → c < maxComponents → takesPart p i c ≡ true → chosenBy p chosen i c < transitions p
 
 -- The state when component c has acted, where it takes part.
 unfoldable pub actPart : Plan → List ℕ → ℕ → ℕ → State → State
-actPart p picks i c s = cond (takesPart p i c) (acted p s (actionOf p (picked p picks i c))) s
+actPart p chosen i c s = cond (takesPart p i c) (acted p s (actionOf p (chosenBy p chosen i c))) s
 
 -- The state when the components below n have acted.
 unfoldable pub actsBelow : Plan → List ℕ → ℕ → ℕ → State → State
-actsBelow p picks i zero s = s
-actsBelow p picks i (suc n) s = actPart p picks i n (actsBelow p picks i n s)
+actsBelow p chosen i zero s = s
+actsBelow p chosen i (suc n) s = actPart p chosen i n (actsBelow p chosen i n s)
 
 -- The list l with x at place k, where the test holds.
 unfoldable pub setWhere : Bool → List ℕ → ℕ → ℕ → List ℕ

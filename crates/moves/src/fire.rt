@@ -1,18 +1,24 @@
 // One move: the transfer, the actions of the components that take part, then their destinations and last ports.
-use choices::choice;
 use choices::masks;
 use code::eval;
+use layout::header::components;
+use layout::records::ACTION;
+use layout::records::DESTINATION;
+use layout::records::TRANSFER;
+use layout::records::interaction_at;
+use layout::records::transition_at;
 use words::bytes;
 ghost use mathlib.Core.Path.{_≡_};
 ghost use mathlib.Core.Bool.{true};
 ghost use Prim.Native.Nat.{_+_, _*_, _<_};
 ghost use lib.ListN.{length, getD};
-ghost use Rattle.semantics.specs.Plan.{components, interactions, destination, portIn, takesPart};
+ghost use Rattle.semantics.specs.Plan.{maxComponents, maxVariables, components, interactions, destination, portIn, takesPart};
 ghost use Rattle.semantics.specs.Rules.{planRefusal};
 ghost use Rattle.semantics.specs.Move.{enabled, fired};
-ghost use Rattle.choices.specs.Choices.{choiceTable};
-ghost use Rattle.moves.specs.Parts.{picked, Picked, actPart, actsBelow, setWhere, setBelow};
-ghost use Rattle.lane.specs.Runs.{site};
+ghost use Rattle.choices.specs.Choices.{chosenTable};
+ghost use Rattle.lane.specs.Runs.{Sized};
+ghost use Rattle.moves.specs.Parts.{chosenBy, AllChosen, actPart, actsBelow, setWhere, setBelow};
+ghost use Rattle.semantics.specs.Code.{site};
 
 fn wide(n: u16) -> usize
     ensures { λ r. ⌜ (r ≡ n) × (r < 65536) ⌝ }
@@ -21,11 +27,11 @@ fn wide(n: u16) -> usize
 }
 
 // The transition that the table has for component c through a port.
-fn pick(picks: &[u16; 256], c: usize, port: usize) -> usize
-    requires { ⌜ (c < 16) × (port < 16) ⌝ }
-    ensures { λ r. ⌜ r ≡ getD (now (picks .entry)) (16 * c + port) 0 ⌝ }
+fn look_up(chosen: &[u16; 256], c: usize, port: usize) -> usize
+    requires { ⌜ (c < maxComponents) × (port < 16) ⌝ }
+    ensures { λ r. ⌜ r ≡ getD (now (chosen .entry)) (16 * c + port) 0 ⌝ }
 {
-    wide(picks[16 * c + port])
+    wide(chosen[16 * c + port])
 }
 
 // The action of component c, where it takes part in interaction i.
@@ -34,18 +40,18 @@ fn act_part(
     locations: &[u8; 16],
     ports: &[u8; 16],
     values: &mut [i32; 64],
-    picks: &[u16; 256],
+    chosen: &[u16; 256],
     i: usize,
     c: usize,
 )
     requires { ⌜ planRefusal (now plan) ≡ 0 ⌝ }
-    requires { ⌜ (i < interactions (now plan)) × (c < 16) × (length (now values) ≡ 64) × Picked (now plan) (now picks) i ⌝ }
-    ensures { λ _. ⌜ (site (now (locations .entry)) (now (ports .entry)) (now (values .exit)) ≡ actPart (now (plan .entry)) (now (picks .entry)) i c (site (now (locations .entry)) (now (ports .entry)) (now (values .entry)))) × (length (now (values .exit)) ≡ 64) ⌝ }
+    requires { ⌜ (i < interactions (now plan)) × (c < maxComponents) × (length (now values) ≡ maxVariables) × AllChosen (now plan) (now chosen) i ⌝ }
+    ensures { λ _. ⌜ (site (now (locations .entry)) (now (ports .entry)) (now (values .exit)) ≡ actPart (now (plan .entry)) (now (chosen .entry)) i c (site (now (locations .entry)) (now (ports .entry)) (now (values .entry)))) × (length (now (values .exit)) ≡ maxVariables) ⌝ }
 {
     let q = masks::port_in(plan, i, c);
     if q != 255 {
-        let at = choice::transition_at(plan, pick(picks, c, q));
-        eval::act(plan, values, at + 8);
+        let at = transition_at(plan, look_up(chosen, c, q));
+        eval::act(plan, values, at + ACTION);
     }
 }
 
@@ -55,17 +61,18 @@ fn acts(
     locations: &[u8; 16],
     ports: &[u8; 16],
     values: &mut [i32; 64],
-    picks: &[u16; 256],
+    chosen: &[u16; 256],
     i: usize,
 )
     requires { ⌜ planRefusal (now plan) ≡ 0 ⌝ }
-    requires { ⌜ (i < interactions (now plan)) × (length (now values) ≡ 64) × Picked (now plan) (now picks) i ⌝ }
-    ensures { λ _. ⌜ (site (now (locations .entry)) (now (ports .entry)) (now (values .exit)) ≡ actsBelow (now (plan .entry)) (now (picks .entry)) i (components (now (plan .entry))) (site (now (locations .entry)) (now (ports .entry)) (now (values .entry)))) × (length (now (values .exit)) ≡ 64) ⌝ }
+    requires { ⌜ (i < interactions (now plan)) × (length (now values) ≡ maxVariables) × AllChosen (now plan) (now chosen) i ⌝ }
+    ensures { λ _. ⌜ (site (now (locations .entry)) (now (ports .entry)) (now (values .exit))
+        ≡ actsBelow (now (plan .entry)) (now (chosen .entry)) i (components (now (plan .entry))) (site (now (locations .entry)) (now (ports .entry)) (now (values .entry)))) × (length (now (values .exit)) ≡ maxVariables) ⌝ }
 {
-    let count = bytes::field(plan, 10);
+    let count = components(plan);
     let mut c = 0;
     while c < count {
-        act_part(plan, locations, ports, values, picks, i, c);
+        act_part(plan, locations, ports, values, chosen, i, c);
         c += 1;
     }
 }
@@ -75,35 +82,41 @@ fn arrive_part(
     plan: &[u8],
     locations: &mut [u8; 16],
     ports: &mut [u8; 16],
-    picks: &[u16; 256],
+    chosen: &[u16; 256],
     i: usize,
     c: usize,
 )
     requires { ⌜ planRefusal (now plan) ≡ 0 ⌝ }
-    requires { ⌜ (i < interactions (now plan)) × (c < 16) × Picked (now plan) (now picks) i ⌝ }
-    ensures { λ _. ⌜ now (locations .exit) ≡ setWhere (takesPart (now (plan .entry)) i c) (now (locations .entry)) c (destination (now (plan .entry)) (picked (now (plan .entry)) (now (picks .entry)) i c)) ⌝ }
+    requires { ⌜ (i < interactions (now plan)) × (c < maxComponents) × AllChosen (now plan) (now chosen) i ⌝ }
+    ensures { λ _. ⌜ now (locations .exit) ≡ setWhere (takesPart (now (plan .entry)) i c) (now (locations .entry)) c (destination (now (plan .entry)) (chosenBy (now (plan .entry)) (now (chosen .entry)) i c)) ⌝ }
     ensures { λ _. ⌜ now (ports .exit) ≡ setWhere (takesPart (now (plan .entry)) i c) (now (ports .entry)) c (portIn (now (plan .entry)) i c) ⌝ }
 {
-    let row = masks::interaction_at(plan, i);
+    let row = interaction_at(plan, i);
     let port = plan[row + c];
     if port != 255 {
-        let at = choice::transition_at(plan, pick(picks, c, bytes::wide(port)));
-        locations[c] = plan[at + 3];
+        let at = transition_at(plan, look_up(chosen, c, bytes::wide(port)));
+        locations[c] = plan[at + DESTINATION];
         ports[c] = port;
     }
 }
 
 // Brings all components that take part in interaction i to their destinations and notes their ports.
-fn arrive(plan: &[u8], locations: &mut [u8; 16], ports: &mut [u8; 16], picks: &[u16; 256], i: usize)
+fn arrive(
+    plan: &[u8],
+    locations: &mut [u8; 16],
+    ports: &mut [u8; 16],
+    chosen: &[u16; 256],
+    i: usize,
+)
     requires { ⌜ planRefusal (now plan) ≡ 0 ⌝ }
-    requires { ⌜ (i < interactions (now plan)) × Picked (now plan) (now picks) i ⌝ }
-    ensures { λ _. ⌜ now (locations .exit) ≡ setBelow (takesPart (now (plan .entry)) i) (λ c. destination (now (plan .entry)) (picked (now (plan .entry)) (now (picks .entry)) i c)) (now (locations .entry)) (components (now (plan .entry))) ⌝ }
+    requires { ⌜ (i < interactions (now plan)) × AllChosen (now plan) (now chosen) i ⌝ }
+    ensures { λ _. ⌜ now (locations .exit) ≡ setBelow (takesPart (now (plan .entry)) i) (λ c. destination (now (plan .entry)) (chosenBy (now (plan .entry)) (now (chosen .entry)) i c)) (now (locations .entry)) (components (now (plan .entry))) ⌝ }
     ensures { λ _. ⌜ now (ports .exit) ≡ setBelow (takesPart (now (plan .entry)) i) (portIn (now (plan .entry)) i) (now (ports .entry)) (components (now (plan .entry))) ⌝ }
 {
-    let count = bytes::field(plan, 10);
+    let count = components(plan);
     let mut c = 0;
     while c < count {
-        arrive_part(plan, locations, ports, picks, i, c);
+        arrive_part(plan, locations, ports, chosen, i, c);
         c += 1;
     }
 }
@@ -114,16 +127,17 @@ pub fn fire(
     locations: &mut [u8; 16],
     ports: &mut [u8; 16],
     values: &mut [i32; 64],
-    picks: &[u16; 256],
+    chosen: &[u16; 256],
     i: usize,
 )
     requires { ⌜ planRefusal (now plan) ≡ 0 ⌝ }
-    requires { ⌜ (i < interactions (now plan)) × (now picks ≡ choiceTable (now plan) (site (now locations) (now ports) (now values))) × (enabled (now plan) (site (now locations) (now ports) (now values)) i ≡ true) ⌝ }
-    requires { ⌜ (length (now locations) ≡ 16) × (length (now ports) ≡ 16) × (length (now values) ≡ 64) ⌝ }
+    requires { ⌜ (i < interactions (now plan)) × (now chosen ≡ chosenTable (now plan) (site (now locations) (now ports) (now values))) × (enabled (now plan) (site (now locations) (now ports) (now values)) i ≡ true) ⌝ }
+    requires { ⌜ Sized (now locations) (now ports) (now values) ⌝ }
+    ensures { λ _. ⌜ Sized (now (locations .exit)) (now (ports .exit)) (now (values .exit)) ⌝ }
     ensures { λ _. ⌜ site (now (locations .exit)) (now (ports .exit)) (now (values .exit)) ≡ fired (now (plan .entry)) (site (now (locations .entry)) (now (ports .entry)) (now (values .entry))) i ⌝ }
 {
-    let at = masks::interaction_at(plan, i);
-    eval::act(plan, values, at + 20);
-    acts(plan, locations, ports, values, picks, i);
-    arrive(plan, locations, ports, picks, i);
+    let at = interaction_at(plan, i);
+    eval::act(plan, values, at + TRANSFER);
+    acts(plan, locations, ports, values, chosen, i);
+    arrive(plan, locations, ports, chosen, i);
 }

@@ -1,30 +1,30 @@
-// The event of a state, what the oracle makes of it, and the lane after a move.
+// The event of a state, what the oracle makes of it, and the configuration after a move.
 use crate::fire;
 use code::eval;
-use lane::image;
-use lane::run::Run;
+use layout::header::propositions;
+use layout::records::proposition_at;
+use oracle::row;
 use words::bits;
-use words::bytes;
 ghost use mathlib.Core.Path.{_≡_};
 ghost use mathlib.Core.Bool.{true};
 ghost use Prim.Native.Nat.{_+_, _<_};
-ghost use Rattle.semantics.specs.Plan.{interactions, oracleStates, letters, next};
+ghost use Rattle.semantics.specs.Plan.{interactions, letters};
 ghost use Rattle.semantics.specs.Rules.{planRefusal};
-ghost use Rattle.semantics.specs.Move.{enabled, letter, judged, after};
-ghost use Rattle.choices.specs.Choices.{choiceTable};
-ghost use Rattle.lane.specs.Runs.{site, stateOf, configurationIn, runOf};
+ghost use Rattle.semantics.specs.Move.{enabled, letter, judged, after, oracleInRange};
+ghost use Rattle.choices.specs.Choices.{chosenTable};
+ghost use Rattle.semantics.specs.Code.{site};
+ghost use Rattle.lane.specs.Runs.{lent, Sized};
 
 // The event's letter: the sum of 2^k over the true propositions k.
 pub fn letter(plan: &[u8], locations: &[u8; 16], ports: &[u8; 16], values: &[i32; 64]) -> usize
     requires { ⌜ planRefusal (now plan) ≡ 0 ⌝ }
     ensures { λ r. ⌜ (r ≡ letter (now (plan .entry)) (site (now (locations .entry)) (now (ports .entry)) (now (values .entry)))) × (r < letters (now (plan .entry))) ⌝ }
 {
-    let count = bytes::field(plan, 18);
-    let base = bytes::field(plan, 36);
+    let count = propositions(plan);
     let mut out = 0;
     let mut k = 0;
     while k < count {
-        if eval::guard_holds(plan, locations, ports, values, base + 4 * k) {
+        if eval::guard_holds(plan, locations, ports, values, proposition_at(plan, k)) {
             out = bits::with_bit(out, k);
         }
         k += 1;
@@ -32,51 +32,38 @@ pub fn letter(plan: &[u8], locations: &[u8; 16], ports: &[u8; 16], values: &[i32
     out as usize
 }
 
-// The oracle state that follows q on a letter.
-fn next_of(plan: &[u8], q: u8, a: usize) -> u8
+// The oracle's state when it has read the event of a state.
+pub fn judge<'a>(
+    plan: &[u8],
+    locations: &'a [u8; 16],
+    ports: &'a [u8; 16],
+    values: &'a [i32; 64],
+    oracle: u8,
+) -> u8
     requires { ⌜ planRefusal (now plan) ≡ 0 ⌝ }
-    requires { ⌜ (q < oracleStates (now plan)) × (a < letters (now plan)) ⌝ }
-    ensures { λ r. ⌜ (r ≡ next (now (plan .entry)) q a) × (r < oracleStates (now (plan .entry))) ⌝ }
+    requires { ⌜ oracleInRange (now plan) oracle ≡ true ⌝ }
+    ensures { λ r. ⌜ (lent (now (locations .entry)) (now (ports .entry)) (now (values .entry)) r ≡ judged (now (plan .entry)) oracle (site (now (locations .entry)) (now (ports .entry)) (now (values .entry)))) × (oracleInRange (now (plan .entry)) r ≡ true) ⌝ }
 {
-    let at = image::oracle_at(plan, q);
-    plan[at + (1 + a)]
+    let event = letter(plan, locations, ports, values);
+    row::next(plan, oracle, event)
 }
 
-// The lane when the oracle has read the event of its state.
-pub fn judge(plan: &[u8], mut run: Run) -> Run
+// Makes the state that of after interaction i, and gives the oracle's, the event read; the table of choices is that of the state before it.
+pub fn after(
+    plan: &[u8],
+    locations: &mut [u8; 16],
+    ports: &mut [u8; 16],
+    values: &mut [i32; 64],
+    oracle: u8,
+    chosen: &[u16; 256],
+    i: usize,
+) -> u8
     requires { ⌜ planRefusal (now plan) ≡ 0 ⌝ }
-    requires { ⌜ run .oracle < oracleStates (now plan) ⌝ }
-    ensures { λ r. ⌜ (r ≡ runOf (judged (now (plan .entry)) (run .oracle) (stateOf run)) (run .marks)) × (r .oracle < oracleStates (now (plan .entry))) ⌝ }
+    requires { ⌜ (i < interactions (now plan)) × (now chosen ≡ chosenTable (now plan) (site (now locations) (now ports) (now values))) × (enabled (now plan) (site (now locations) (now ports) (now values)) i ≡ true) ⌝ }
+    requires { ⌜ (oracleInRange (now plan) oracle ≡ true) × Sized (now locations) (now ports) (now values) ⌝ }
+    ensures { λ r. ⌜ Sized (now (locations .exit)) (now (ports .exit)) (now (values .exit)) ⌝ }
+    ensures { λ r. ⌜ (lent (now (locations .exit)) (now (ports .exit)) (now (values .exit)) r ≡ after (now (plan .entry)) (lent (now (locations .entry)) (now (ports .entry)) (now (values .entry)) oracle) i) × (oracleInRange (now (plan .entry)) r ≡ true) ⌝ }
 {
-    let locations = run.locations;
-    let ports = run.last_ports;
-    let a = letter(plan, &locations, &ports, &run.values);
-    run.oracle = next_of(plan, run.oracle, a);
-    run
-}
-
-// The lane after interaction i, its event read; the table of choices is that of the state before it. The record is copied once in, by its parts,
-// and once out.
-pub fn advance(plan: &[u8], run: Run, picks: &[u16; 256], i: usize) -> Run
-    requires { ⌜ planRefusal (now plan) ≡ 0 ⌝ }
-    requires { ⌜ (i < interactions (now plan)) × (now picks ≡ choiceTable (now plan) (stateOf run)) × (enabled (now plan) (stateOf run) i ≡ true) ⌝ }
-    requires { ⌜ run .oracle < oracleStates (now plan) ⌝ }
-    ensures { λ r. ⌜ (r ≡ runOf (after (now (plan .entry)) (configurationIn run) i) (run .marks)) × (r .oracle < oracleStates (now (plan .entry))) ⌝ }
-{
-    let mut locations = run.locations;
-    let mut ports = run.last_ports;
-    let values = run.values;
-    let mut next = Run {
-        locations: locations,
-        last_ports: ports,
-        values: values,
-        oracle: run.oracle,
-        marks: run.marks,
-    };
-    fire::fire(plan, &mut locations, &mut ports, &mut next.values, picks, i);
-    let event = letter(plan, &locations, &ports, &next.values);
-    next.locations = locations;
-    next.last_ports = ports;
-    next.oracle = next_of(plan, run.oracle, event);
-    next
+    fire::fire(plan, locations, ports, values, chosen, i);
+    judge(plan, locations, ports, values, oracle)
 }

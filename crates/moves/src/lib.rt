@@ -1,3 +1,4 @@
-// One move: the transitions chosen, the enabled and eligible interactions, the move itself and the oracle.
+// One move: transfer, actions, destinations and last ports (fire), its event and the oracle (judge); the moves that end good (search).
 pub mod fire;
 pub mod judge;
+pub mod search;

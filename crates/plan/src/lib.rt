@@ -1,17 +1,19 @@
-// The check of a plan: refusals 1 to 10 in order, with the rules of code spans (10).
+// The check of a plan: refusals 1 to 10 in order, of its header, its tables and its code.
+use oracle::rule;
 use tables::header;
-use tables::oracle;
 use tables::ranks;
 use tables::records;
 ghost use mathlib.Core.Path.{_≡_};
-ghost use Rattle.semantics.specs.Rules.{planRefusal};
+ghost use Rattle.semantics.specs.Refusal.{refusal};
+ghost use Rattle.semantics.specs.Rules.{headerRules, tableRules, codeRules, planRefusal};
+ghost use Rattle.layout.specs.Laid.{Laid};
 
 pub mod names;
 pub mod spans;
 
-// The number of the first refusal that applies to the plan, 0 where none does.
-pub fn check(plan: &[u8]) -> u8
-    ensures { λ r. ⌜ r ≡ planRefusal (now (plan .entry)) ⌝ }
+// The first refusal of the header, 1 to 3; 0 where none applies.
+fn header_refusal(plan: &[u8]) -> u8
+    ensures { λ r. ⌜ r ≡ refusal (headerRules (now (plan .entry))) ⌝ }
 {
     if !header::head_ok(plan) {
         return 1;
@@ -22,6 +24,14 @@ pub fn check(plan: &[u8]) -> u8
     if !header::layout_ok(plan) {
         return 3;
     }
+    0
+}
+
+// The first refusal of the tables, 4 to 9.
+fn table_refusal(plan: &[u8]) -> u8
+    requires { ⌜ Laid (now plan) ⌝ }
+    ensures { λ r. ⌜ r ≡ refusal (tableRules (now (plan .entry))) ⌝ }
+{
     if !records::components_ok(plan) {
         return 4;
     }
@@ -37,11 +47,34 @@ pub fn check(plan: &[u8]) -> u8
     if !ranks::ranks_ok(plan) {
         return 8;
     }
-    if !oracle::oracle_ok(plan) {
+    if !rule::oracle_ok(plan) {
         return 9;
     }
+    0
+}
+
+// The refusal of the code, 10, where the tables are in order.
+fn code_refusal(plan: &[u8]) -> u8
+    requires { ⌜ Laid (now plan) × (refusal (tableRules (now plan)) ≡ 0) ⌝ }
+    ensures { λ r. ⌜ r ≡ refusal (codeRules (now (plan .entry))) ⌝ }
+{
     if !spans::code_ok(plan) {
         return 10;
     }
     0
+}
+
+// The number of the first refusal that applies to the plan, 0 where none does.
+pub fn check(plan: &[u8]) -> u8
+    ensures { λ r. ⌜ r ≡ planRefusal (now (plan .entry)) ⌝ }
+{
+    let of_header = header_refusal(plan);
+    if of_header != 0 {
+        return of_header;
+    }
+    let of_tables = table_refusal(plan);
+    if of_tables != 0 {
+        return of_tables;
+    }
+    code_refusal(plan)
 }

@@ -1,27 +1,28 @@
 // The variables that a span may name, as 64-bit masks.
+use layout::header;
+use layout::records;
 ghost use mathlib.Core.Path.{_≡_};
 ghost use Prim.Native.Nat.{ℕ, _<_};
 ghost use mathlib.Core.Bool.{true};
 ghost use lib.ListN.{length, getD};
 ghost use Rattle.semantics.specs.Bytes.{bit, every};
-ghost use Rattle.semantics.specs.Plan.{variables, interactions};
+ghost use Rattle.semantics.specs.Plan.{maxComponents, variables, interactions};
 ghost use Rattle.semantics.specs.Code.{sharedIn, declared};
 ghost use Rattle.semantics.specs.Rules.{variableOk};
-ghost use Rattle.code.specs.Laid.{Laid};
+ghost use Rattle.layout.specs.Laid.{Laid};
 ghost use Rattle.plan.specs.Owned.{Owned};
 
 // The variables that each component owns, put into masks that are empty.
 pub fn owned_masks(plan: &[u8], out: &mut [u64; 16])
     requires { ⌜ Laid (now plan) ⌝ }
     requires { ⌜ every (variables (now plan)) (variableOk (now plan)) ≡ true ⌝ }
-    requires { ⌜ (length (now out) ≡ 16) × ((c : ℕ) → getD (now out) c 0 ≡ 0) ⌝ }
+    requires { ⌜ (length (now out) ≡ maxComponents) × ((c : ℕ) → getD (now out) c 0 ≡ 0) ⌝ }
     ensures { λ r. ⌜ Owned (now (plan .entry)) (now (out .exit)) ⌝ }
 {
-    let count = words::bytes::field(plan, 12);
-    let start = words::bytes::field(plan, 28);
+    let count = header::variables(plan);
     let mut v = 0;
     while v < count {
-        let owner = words::bytes::wide(plan[start + 8 * v]);
+        let owner = words::bytes::wide(plan[records::variable_at(plan, v)]);
         out[owner] = words::bits::with_bit(out[owner], v);
         v = v + 1;
     }
@@ -43,7 +44,7 @@ pub fn shared_mask(plan: &[u8], owned: &[u64; 16], i: usize) -> u64
     requires { ⌜ (i < interactions (now plan)) × Owned (now plan) (now owned) ⌝ }
     ensures { λ r. ⌜ ((v : ℕ) → bit r v ≡ sharedIn (now (plan .entry)) i v) ⌝ }
 {
-    let at = words::bytes::field(plan, 32) + 24 * i;
+    let at = records::interaction_at(plan, i);
     let mut mask = 0;
     let mut c = 0;
     while c < 16 {
@@ -58,6 +59,6 @@ pub fn all_mask(plan: &[u8]) -> u64
     requires { ⌜ Laid (now plan) ⌝ }
     ensures { λ r. ⌜ ((v : ℕ) → bit r v ≡ declared (now (plan .entry)) v) ⌝ }
 {
-    let count = words::bytes::field(plan, 12);
+    let count = header::variables(plan);
     words::bits::first_bits(count)
 }

@@ -1,63 +1,77 @@
 // Refusal 10: the code of every transition, interaction and proposition keeps the rules.
 ghost use mathlib.Core.Path.{_≡_};
-ghost use Prim.Native.Nat.{ℕ, _<_};
-ghost use mathlib.Core.Bool.{true};
+ghost use Prim.Native.Nat.{ℕ, _+_, _≤_, _<_};
+ghost use mathlib.Core.Bool.{Bool, true};
+ghost use lib.ListN.{length};
+ghost use lib.Dec.{eqb};
 ghost use Rattle.semantics.specs.Bytes.{bit, every};
-ghost use Rattle.semantics.specs.Plan.{variables, transitions, interactions, propositions, transitionAt, componentOf, guardOf, actionOf};
-ghost use Rattle.semantics.specs.Code.{asGuard, asUpdate, ownedBy, declared, spanOk};
+ghost use Rattle.semantics.specs.Plan.{maxComponents, variables, transitions, interactions, propositions, transitionAt, componentOf, spanAt};
+ghost use Rattle.semantics.specs.Code.{ownedBy, declared};
 ghost use Rattle.semantics.specs.Rules.{variableOk, transitionOk, transitionCode, interactionCode, propositionCode, codeOk};
-ghost use Rattle.code.specs.Laid.{Laid};
+ghost use Rattle.layout.specs.Laid.{Laid};
 ghost use Rattle.plan.specs.Owned.{Owned};
+ghost use Rattle.plan.specs.Pair.{pairOk};
 use crate::names;
 use checker::span;
+use layout::header;
+use layout::records;
+use layout::records::ACTION;
+use layout::records::GUARD;
+use layout::records::INTERACTION_GUARD;
+use layout::records::TRANSFER;
 use words::bytes;
+
+// Whether the spans at two places are empty.
+fn both_empty(plan: &[u8], guard: usize, update: usize) -> bool
+    requires { ⌜ (guard + 4 ≤ length (now plan)) × (update + 4 ≤ length (now plan)) ⌝ }
+    ensures { λ r. ⌜ r ≡ eqb (spanAt (now (plan .entry)) guard .size + spanAt (now (plan .entry)) update .size) 0 ⌝ }
+{
+    records::span_size(plan, guard) + records::span_size(plan, update) == 0
+}
+
+// A guard and an update that are empty: whatever may be named, they only have to start in the code or at its end.
+fn starts_ok(plan: &[u8], guard: usize, update: usize) -> bool
+    requires { ⌜ Laid (now plan) × (guard + 4 ≤ length (now plan)) × (update + 4 ≤ length (now plan)) ⌝ }
+    requires { ⌜ spanAt (now plan) guard .size + spanAt (now plan) update .size ≡ 0 ⌝ }
+    ensures { λ r. ⌜ ((f : ℕ → Bool) → r ≡ pairOk (now (plan .entry)) f guard update) ⌝ }
+{
+    let words = header::code_words(plan);
+    (records::span_start(plan, guard) <= words) & (records::span_start(plan, update) <= words)
+}
+
+// A guard and an update that may name the variables of a mask.
+fn pair_ok(plan: &[u8], names: u64, guard: usize, update: usize) -> bool
+    requires { ⌜ Laid (now plan) × (guard + 4 ≤ length (now plan)) × (update + 4 ≤ length (now plan)) ⌝ }
+    ensures { λ r. ⌜ r ≡ pairOk (now (plan .entry)) (bit names) guard update ⌝ }
+{
+    if !span::span_ok(plan, false, false, names, guard) {
+        return false;
+    }
+    span::span_ok(plan, true, false, names, update)
+}
 
 // The variables that the component of transition t, whose record is at a place, owns.
 fn own_mask(plan: &[u8], owned: &[u64; 16], t: usize, at: usize) -> u64
-    requires { ⌜ Laid (now plan) × (t < transitions (now plan)) × (componentOf (now plan) t < 16) ⌝ }
+    requires { ⌜ Laid (now plan) × (t < transitions (now plan)) × (componentOf (now plan) t < maxComponents) ⌝ }
     requires { ⌜ Owned (now plan) (now owned) × (at ≡ transitionAt (now plan) t) ⌝ }
     ensures { λ r. ⌜ ((v : ℕ) → bit r v ≡ ownedBy (now (plan .entry)) (componentOf (now (plan .entry)) t) v) ⌝ }
 {
     owned[bytes::wide(plan[at])]
 }
 
-// The guard of that transition. An empty one asks for no mask.
-fn guard_code(plan: &[u8], owned: &[u64; 16], t: usize, at: usize) -> bool
-    requires { ⌜ Laid (now plan) × (t < transitions (now plan)) × (componentOf (now plan) t < 16) ⌝ }
-    requires { ⌜ Owned (now plan) (now owned) × (at ≡ transitionAt (now plan) t) ⌝ }
-    ensures { λ r. ⌜ r ≡ spanOk (now (plan .entry)) asGuard (ownedBy (now (plan .entry)) (componentOf (now (plan .entry)) t)) (guardOf (now (plan .entry)) t) ⌝ }
-{
-    if bytes::field(plan, at + 6) == 0 {
-        return bytes::field(plan, at + 4) <= bytes::field(plan, 24);
-    }
-    let mine = own_mask(plan, owned, t, at);
-    span::span_ok(plan, false, false, mine, at + 4)
-}
-
-// Its action, likewise.
-fn action_code(plan: &[u8], owned: &[u64; 16], t: usize, at: usize) -> bool
-    requires { ⌜ Laid (now plan) × (t < transitions (now plan)) × (componentOf (now plan) t < 16) ⌝ }
-    requires { ⌜ Owned (now plan) (now owned) × (at ≡ transitionAt (now plan) t) ⌝ }
-    ensures { λ r. ⌜ r ≡ spanOk (now (plan .entry)) asUpdate (ownedBy (now (plan .entry)) (componentOf (now (plan .entry)) t)) (actionOf (now (plan .entry)) t) ⌝ }
-{
-    if bytes::field(plan, at + 10) == 0 {
-        return bytes::field(plan, at + 8) <= bytes::field(plan, 24);
-    }
-    let mine = own_mask(plan, owned, t, at);
-    span::span_ok(plan, true, false, mine, at + 8)
-}
-
-// The guard and the action of a transition, which name its component's variables.
+// The guard and the action of a transition, which name its component's variables. Empty ones ask for no mask.
 fn transition_code(plan: &[u8], owned: &[u64; 16], t: usize) -> bool
     requires { ⌜ Laid (now plan) ⌝ }
-    requires { ⌜ (t < transitions (now plan)) × (componentOf (now plan) t < 16) × Owned (now plan) (now owned) ⌝ }
+    requires { ⌜ (t < transitions (now plan)) × (componentOf (now plan) t < maxComponents) × Owned (now plan) (now owned) ⌝ }
     ensures { λ r. ⌜ r ≡ transitionCode (now (plan .entry)) t ⌝ }
 {
-    let at = bytes::field(plan, 30) + 12 * t;
-    if !guard_code(plan, owned, t, at) {
-        return false;
+    let at = records::transition_at(plan, t);
+    let guard = at + GUARD;
+    let action = at + ACTION;
+    if both_empty(plan, guard, action) {
+        return starts_ok(plan, guard, action);
     }
-    action_code(plan, owned, t, at)
+    pair_ok(plan, own_mask(plan, owned, t, at), guard, action)
 }
 
 fn transitions_code(plan: &[u8], owned: &[u64; 16]) -> bool
@@ -66,7 +80,7 @@ fn transitions_code(plan: &[u8], owned: &[u64; 16]) -> bool
     requires { ⌜ Owned (now plan) (now owned) ⌝ }
     ensures { λ r. ⌜ r ≡ every (transitions (now (plan .entry))) (transitionCode (now (plan .entry))) ⌝ }
 {
-    let count = bytes::field(plan, 14);
+    let count = header::transitions(plan);
     let mut t = 0;
     while t < count {
         if !transition_code(plan, owned, t) {
@@ -77,22 +91,19 @@ fn transitions_code(plan: &[u8], owned: &[u64; 16]) -> bool
     true
 }
 
-// The guard and the transfer of an interaction, which name the variables of the components taking part. Empty ones ask for no mask.
+// The guard and the transfer of an interaction, which name the variables of the components taking part; likewise.
 fn interaction_code(plan: &[u8], owned: &[u64; 16], i: usize) -> bool
     requires { ⌜ Laid (now plan) ⌝ }
     requires { ⌜ (i < interactions (now plan)) × Owned (now plan) (now owned) ⌝ }
     ensures { λ r. ⌜ r ≡ interactionCode (now (plan .entry)) i ⌝ }
 {
-    let at = bytes::field(plan, 32) + 24 * i;
-    if bytes::field(plan, at + 18) + bytes::field(plan, at + 22) == 0 {
-        let words = bytes::field(plan, 24);
-        return (bytes::field(plan, at + 16) <= words) & (bytes::field(plan, at + 20) <= words);
+    let at = records::interaction_at(plan, i);
+    let guard = at + INTERACTION_GUARD;
+    let transfer = at + TRANSFER;
+    if both_empty(plan, guard, transfer) {
+        return starts_ok(plan, guard, transfer);
     }
-    let shared = names::shared_mask(plan, owned, i);
-    if !span::span_ok(plan, false, false, shared, at + 16) {
-        return false;
-    }
-    span::span_ok(plan, true, false, shared, at + 20)
+    pair_ok(plan, names::shared_mask(plan, owned, i), guard, transfer)
 }
 
 fn interactions_code(plan: &[u8], owned: &[u64; 16]) -> bool
@@ -100,7 +111,7 @@ fn interactions_code(plan: &[u8], owned: &[u64; 16]) -> bool
     requires { ⌜ Owned (now plan) (now owned) ⌝ }
     ensures { λ r. ⌜ r ≡ every (interactions (now (plan .entry))) (interactionCode (now (plan .entry))) ⌝ }
 {
-    let count = bytes::field(plan, 16);
+    let count = header::interactions(plan);
     let mut i = 0;
     while i < count {
         if !interaction_code(plan, owned, i) {
@@ -117,7 +128,7 @@ fn proposition_code(plan: &[u8], all: u64, k: usize) -> bool
     requires { ⌜ (k < propositions (now plan)) × ((v : ℕ) → bit all v ≡ declared (now plan) v) ⌝ }
     ensures { λ r. ⌜ r ≡ propositionCode (now (plan .entry)) k ⌝ }
 {
-    span::span_ok(plan, false, true, all, bytes::field(plan, 36) + 4 * k)
+    span::span_ok(plan, false, true, all, records::proposition_at(plan, k))
 }
 
 fn propositions_code(plan: &[u8]) -> bool
@@ -125,7 +136,7 @@ fn propositions_code(plan: &[u8]) -> bool
     ensures { λ r. ⌜ r ≡ every (propositions (now (plan .entry))) (propositionCode (now (plan .entry))) ⌝ }
 {
     let all = names::all_mask(plan);
-    let count = bytes::field(plan, 18);
+    let count = header::propositions(plan);
     let mut k = 0;
     while k < count {
         if !proposition_code(plan, all, k) {

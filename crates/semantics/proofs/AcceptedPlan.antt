@@ -1,15 +1,14 @@
 -- What an accepted plan keeps, rule by rule: from `planRefusal p ≡ 0`.
 use mathlib.Core.Path.{_≡_, refl}
-use Prim.Native.Nat.{ℕ, _+_, _≤_, _<_}
-use mathlib.Core.Bool.{Bool, true, false}
-use mathlib.Core.List.{List, [], _∷_}
-use lib.Dec.{leb, ltb, eqb}
-use Rattle.semantics.specs.Bytes.{every, allOf}
-use Rattle.semantics.specs.Plan.{Plan, Span, components, variables, transitions, interactions, propositions, oracleStates, firstOracle, codeWords, letters, locations, ports, startLocation, owner, componentOf, source, portOf, destination, guardOf, actionOf, portIn, takesPart, interactionGuard, transferOf, propositionOf, verdict, next, below}
+use Prim.Native.Nat.{ℕ, _≤_, _<_}
+use mathlib.Core.Bool.{true}
+use Rattle.semantics.specs.Plan.{Plan, maxComponents, maxVariables, maxInteractions, components, variables, transitions, interactions, propositions, oracleStates, firstOracle, componentOf, guardOf, actionOf, interactionGuard, transferOf, propositionOf}
 use Rattle.semantics.specs.Code.{asGuard, asUpdate, asProposition, ownedBy, sharedIn, declared, spanOk}
 use Rattle.semantics.specs.Rules.{headOk, countsOk, layoutOk, componentOk, variableOk, transitionOk, interactionOk, rankOk, oracleOk, codeOk, transitionCode, interactionCode, propositionCode, planRules, planRefusal, within}
-use Rattle.semantics.proofs.Basics.{Each, each, every-at, ltb-true, leb-true}
-use Rattle.semantics.proofs.Refusing.{numbered, none-refused}
+use Rattle.semantics.specs.Move.{oracleInRange}
+use Rattle.semantics.proofs.Basics.{each, every-at, leb-true}
+use Rattle.semantics.proofs.Refusing.{numbered}
+use Rattle.semantics.proofs.RuleLists.{keeps, rule-kept}
 
 pub record Accepted (p : Plan) : Type 0 where
   pub head : headOk p ≡ true
@@ -28,66 +27,72 @@ unfolding numbered planRules
 plan-numbered p = refl
 
 pub accepted-plan : (p : Plan) → planRefusal p ≡ 0 → Accepted p
-unfolding planRefusal planRules
+unfolding planRefusal planRules keeps
 accepted-plan p e =
-    let h : Each
-    (headOk p ∷ countsOk p ∷ layoutOk p ∷ every (components p) (componentOk p) ∷ every (variables p) (variableOk p)
-    ∷ every (transitions p) (transitionOk p) ∷ every (interactions p) (interactionOk p) ∷ every (interactions p) (rankOk p)
-    ∷ every (oracleStates p) (oracleOk p) ∷ codeOk p ∷ [])
-    = none-refused (planRules p) (plan-numbered p) e in
+    let kept : (n : ℕ) → keeps n (planRules p) ≡ true = rule-kept (planRules p) (plan-numbered p) e in
     record {
-      head = h .0;
-      counts = h .1 .0;
-      layout = h .1 .1 .0;
-      component = every-at (components p) (componentOk p) (h .1 .1 .1 .0);
-      variable = every-at (variables p) (variableOk p) (h .1 .1 .1 .1 .0);
-      transition = every-at (transitions p) (transitionOk p) (h .1 .1 .1 .1 .1 .0);
-      interaction = every-at (interactions p) (interactionOk p) (h .1 .1 .1 .1 .1 .1 .0);
-      rank = every-at (interactions p) (rankOk p) (h .1 .1 .1 .1 .1 .1 .1 .0);
-      oracle = every-at (oracleStates p) (oracleOk p) (h .1 .1 .1 .1 .1 .1 .1 .1 .0);
-      code = h .1 .1 .1 .1 .1 .1 .1 .1 .1 .0;
+      head = kept 1;
+      counts = kept 2;
+      layout = kept 3;
+      component = every-at (components p) (componentOk p) (kept 4);
+      variable = every-at (variables p) (variableOk p) (kept 5);
+      transition = every-at (transitions p) (transitionOk p) (kept 6);
+      interaction = every-at (interactions p) (interactionOk p) (kept 7);
+      rank = every-at (interactions p) (rankOk p) (kept 8);
+      oracle = every-at (oracleStates p) (oracleOk p) (kept 9);
+      code = kept 10;
     }
 
 -- ---- the counts
 
 pub record Counts (p : Plan) : Type 0 where
-  pub components≤ : components p ≤ 16
-  pub variables≤ : variables p ≤ 64
-  pub interactions≤ : interactions p ≤ 64
+  pub components≤ : components p ≤ maxComponents
+  pub variables≤ : variables p ≤ maxVariables
+  pub interactions≤ : interactions p ≤ maxInteractions
   pub propositions≤ : propositions p ≤ 4
-  pub first< : firstOracle p < oracleStates p
+  pub first : oracleInRange p (firstOracle p) ≡ true
 
 pub counts-of : (p : Plan) → countsOk p ≡ true → Counts p
-unfolding countsOk within
+unfolding countsOk within oracleInRange
 counts-of p e =
-    let h = each _ e in
+    let (c, (v, (_, (i, (o, (_, (f, _))))))) = each _ e in
+    let (_, (c≤, _)) = each _ c in
+    let (_, (i≤, _)) = each _ i in
     record {
-      components≤ = leb-true _ _ (each _ (h .0) .1 .0);
-      variables≤ = leb-true _ _ (h .1 .0);
-      interactions≤ = leb-true _ _ (each _ (h .1 .1 .1 .0) .1 .0);
-      propositions≤ = leb-true _ _ (h .1 .1 .1 .1 .0);
-      first< = ltb-true _ _ (h .1 .1 .1 .1 .1 .1 .0);
+      components≤ = leb-true _ _ c≤;
+      variables≤ = leb-true _ _ v;
+      interactions≤ = leb-true _ _ i≤;
+      propositions≤ = leb-true _ _ o;
+      first = f;
     }
 
 -- ---- the spans
 
 module _ (p : Plan) (a : Accepted p) where
+  transition-code : (t : ℕ) → t < transitions p → transitionCode p t ≡ true
+  unfolding codeOk
+  transition-code = let (ts, _) = each _ (a .code) in every-at (transitions p) (transitionCode p) ts
+
+  interaction-code : (i : ℕ) → i < interactions p → interactionCode p i ≡ true
+  unfolding codeOk
+  interaction-code = let (_, (is, _)) = each _ (a .code) in every-at (interactions p) (interactionCode p) is
+
   pub guard-ok : (t : ℕ) → t < transitions p → spanOk p asGuard (ownedBy p (componentOf p t)) (guardOf p t) ≡ true
-  unfolding codeOk transitionCode
-  guard-ok t h = each _ (every-at (transitions p) (transitionCode p) (each _ (a .code) .0) t h) .0
+  unfolding transitionCode
+  guard-ok t h = let (g, _) = each _ (transition-code t h) in g
 
   pub action-ok : (t : ℕ) → t < transitions p → spanOk p asUpdate (ownedBy p (componentOf p t)) (actionOf p t) ≡ true
-  unfolding codeOk transitionCode
-  action-ok t h = each _ (every-at (transitions p) (transitionCode p) (each _ (a .code) .0) t h) .1 .0
+  unfolding transitionCode
+  action-ok t h = let (_, (u, _)) = each _ (transition-code t h) in u
 
   pub interaction-guard-ok : (i : ℕ) → i < interactions p → spanOk p asGuard (sharedIn p i) (interactionGuard p i) ≡ true
-  unfolding codeOk interactionCode
-  interaction-guard-ok i h = each _ (every-at (interactions p) (interactionCode p) (each _ (a .code) .1 .0) i h) .0
+  unfolding interactionCode
+  interaction-guard-ok i h = let (g, _) = each _ (interaction-code i h) in g
 
   pub transfer-ok : (i : ℕ) → i < interactions p → spanOk p asUpdate (sharedIn p i) (transferOf p i) ≡ true
-  unfolding codeOk interactionCode
-  transfer-ok i h = each _ (every-at (interactions p) (interactionCode p) (each _ (a .code) .1 .0) i h) .1 .0
+  unfolding interactionCode
+  transfer-ok i h = let (_, (u, _)) = each _ (interaction-code i h) in u
 
   pub proposition-ok : (k : ℕ) → k < propositions p → spanOk p asProposition (declared p) (propositionOf p k) ≡ true
   unfolding codeOk propositionCode
-  proposition-ok k h = every-at (propositions p) (propositionCode p) (each _ (a .code) .1 .1 .0) k h
+  proposition-ok = let (_, (_, (ps, _))) = each _ (a .code) in every-at (propositions p) (propositionCode p) ps

@@ -1,28 +1,30 @@
 -- One call on the book's image answers and leaves what the book says, and the book stays lawful.
-use mathlib.Core.Path.{_≡_, refl, sym, ap, ap₂, _∙_, subst}
-use Prim.Native.Nat.{ℕ, zero, suc, _+_, _*_, _^_, _≤_, _<_}
-use native.Mathlib.Nat.{le-refl, le-trans, lt-of-lt-of-le}
+use mathlib.Core.Path.{_≡_, refl, sym, ap, ap₂, _∙_}
+use Prim.Native.Nat.{ℕ, zero, suc, _≤_, _<_}
+use native.Mathlib.Nat.{lt-of-lt-of-le}
 use native.Mathlib.Omega.{arith}
-use mathlib.Core.Bool.{Bool, true, false, not, cond, _&&_, _||_}
+use mathlib.Core.Bool.{Bool, true, false, not, _||_}
 use mathlib.Core.List.{List, [], _∷_, _++_, append-assoc}
 use lib.ListN.{length}
 use lib.Dec.{ltb, eqb}
 use lib.Pow.{pow-mono}
-use Rattle.semantics.specs.Bytes.{allOf, implies, every, some-below, lowest, bit, mask}
-use Rattle.semantics.specs.Plan.{Plan, interactions}
-use Rattle.semantics.specs.Code.{State}
-use Rattle.semantics.specs.Refusal.{Rule, rule, unless, refusal}
+use Rattle.semantics.specs.Bytes.{allOf, implies, some-below, bit, mask, withBit}
+use Rattle.semantics.specs.Plan.{Plan, maxInteractions, interactions}
+use Rattle.semantics.specs.Refusal.{unless, refusal}
 use Rattle.semantics.specs.Rules.{planRules, planRefusal}
-use Rattle.semantics.specs.Move.{Configuration, enabled, outranked, eligible, after, good, initial}
-use Rattle.semantics.specs.Image.{Image, image, withMarks, marksOf, configurationOf, headMatches, configurationOk, markOk, marksOk, lengthRule, imageRules}
-use Rattle.semantics.specs.Calls.{Answer, offers, committed, cancelled, stalled, penned, refused, Outcome, outcome, unlessRefused, clerkRules, offeredMask, withBit, tried, safeMove, settled, Call, offered, try, settle, callRules, performed, called}
-use Rattle.semantics.specs.Book.{Book, replay, lane, bookImage, listed, crossedOff, Entry, entry, bookOffered, bookRefusal, bookTried, unlessWrong, bookSafe, bookSettled, turn}
-use Rattle.semantics.proofs.Basics.{bool-cases, absurd-bool, same-test, not-yes, or-cases, or-right, implies-yes, Each, each, all-of, ltb-true, ltb-false, lt-ltb, le-ltb, eqb-true, eq-eqb, ne-eqb, every-all, lowest-is, lowest-none}
+use Rattle.semantics.specs.Move.{Configuration, enabled, outranked, eligible, after, good, mayCommit, safeMove, initial}
+use Rattle.semantics.specs.Image.{imageLength, image, withMarks, marksOf, configurationOf, headMatches, markOk, marksOk, lengthRule, imageRules}
+use Rattle.semantics.specs.Calls.{committed, cancelled, penned, outcome, unlessRefused, clerkRules, offeredMask, tried, settled, Call, offered, try, settle, callRules, performed, called}
+use Rattle.semantics.specs.Book.{Book, replay, lane, bookImage, listed, crossedOff, bookOffered, bookRefusal, bookTried, unlessWrong, bookSettled, turn}
+use Rattle.semantics.proofs.Basics.{bool-cases, absurd-bool, same-test, not-yes, or-cases, or-right, implies-yes, Each, all-of, ltb-true, ltb-false, lt-ltb, eqb-true, eq-eqb, ne-eqb, every-all}
 use Rattle.semantics.proofs.Masks.{bit-mask, bit-mask-over, mask-lt, mask-wider, mask-same, mask-none}
 use Rattle.semantics.proofs.Refusing.{tests, numbered, none-refused, all-kept, refusal-after}
-use Rattle.semantics.proofs.AcceptedPlan.{Accepted, accepted-plan, plan-numbered, Counts, counts-of}
+use Rattle.semantics.proofs.RuleLists.{keeps, rule-kept}
+use Rattle.semantics.proofs.AcceptedPlan.{Accepted, accepted-plan, plan-numbered, counts-of}
 use Rattle.semantics.proofs.Images.{length-image, withMarks-image, marks-back, head-matches, configuration-back}
 use Rattle.semantics.proofs.Sound.{Sound, shaped, configuration-ok, sound-after}
+use Rattle.semantics.proofs.Ranking.{eligible-enabled, eligible-from, commit-eligible, commit-good, commit-from, bad-uncommitted, safe-commits, safe-none}
+use Rattle.semantics.proofs.LawfulImage.{mark-kept}
 
 -- what a book keeps from an accepted start on: its lane is sound and good, and each move crossed off is eligible there and ends bad
 pub record Lawful (p : Plan) (k : Book) : Type 0 where
@@ -59,7 +61,7 @@ module _ (p : Plan) (e : planRefusal p ≡ 0) where
 
   small : (f : ℕ → Bool) → mask (interactions p) f < 18446744073709551616
   unfolding here
-  small f = lt-of-lt-of-le (mask-lt (interactions p) f) (pow-mono {j = 64} (counts-of p (here .counts) .interactions≤))
+  small f = lt-of-lt-of-le (mask-lt (interactions p) f) (pow-mono {j = maxInteractions} (counts-of p (here .counts) .interactions≤))
 
   module _ (k : Book) (h : Lawful p k) where
     -- the book's image holds its lane, and its set as marks
@@ -75,7 +77,7 @@ module _ (p : Plan) (e : planRefusal p ≡ 0) where
     marks-lawful : marksOk p (lane p k) (mask (interactions p) (k .crossed)) ≡ true
     unfolding marksOk
     marks-lawful =
-        every-all 64 (λ i. implies (bit (mask (interactions p) (k .crossed)) i) (markOk p (lane p k) i))
+        every-all maxInteractions (λ i. implies (bit (mask (interactions p) (k .crossed)) i) (markOk p (lane p k) i))
         (λ i l. implies-yes (bit (mask (interactions p) (k .crossed)) i) (markOk p (lane p k) i)
         (λ b. bool-cases (ltb i (interactions p))
         (λ t. h .crossed-bad i (ltb-true i (interactions p) t) (sym (bit-mask (interactions p) (k .crossed) i (ltb-true i (interactions p) t)) ∙ b))
@@ -87,7 +89,7 @@ module _ (p : Plan) (e : planRefusal p ≡ 0) where
     image-kept =
         (eq-eqb _ _ (image-long), (matches, (rw held-lane (configuration-ok p (lane p k) (h .sound) (h .is-good)), (rw (held-lane, held-marks) marks-lawful, tt))))
       where
-        image-long : length (bookImage p k) ≡ 312
+        image-long : length (bookImage p k) ≡ imageLength
         image-long = unfold bookImage in length-image p (lane p k) (mask (interactions p) (k .crossed)) (shaped p (lane p k) (h .sound))
 
         matches : headMatches p (bookImage p k) ≡ true
@@ -119,7 +121,7 @@ module _ (p : Plan) (e : planRefusal p ≡ 0) where
     bit-set : (i : ℕ) → i < interactions p → withBit (mask (interactions p) (k .crossed)) i ≡ mask (interactions p) (crossedOff k (λ j. eqb j i) .crossed)
     unfolding withBit here
     bit-set i l =
-        mask-wider (interactions p) 64 (λ j. k .crossed j || eqb j i) (λ j. bit (mask (interactions p) (k .crossed)) j || eqb j i)
+        mask-wider (interactions p) maxInteractions (λ j. k .crossed j || eqb j i) (λ j. bit (mask (interactions p) (k .crossed)) j || eqb j i)
         (counts-of p (here .counts) .interactions≤)
         (λ j m. ap (λ (b : Bool). b || eqb j i) (bit-mask (interactions p) (k .crossed) j m))
         (λ j m n. rw (bit-mask-over (interactions p) (k .crossed) j m) (ne-eqb j i (λ q. other j q m)))
@@ -144,10 +146,6 @@ module _ (p : Plan) (e : planRefusal p ≡ 0) where
         (bool-cases (good p (after p (lane p k) i)) (λ t. rw t (ap (outcome (committed i)) (image-listed p k i)))
         (λ t. rw t (ap (outcome (cancelled i)) (cancelled-same i l))))
 
-    safe-same : safeMove p (lane p k) ≡ bookSafe p k
-    unfolding safeMove bookSafe
-    safe-same = refl
-
     -- past 14 the moves crossed off are eligible: crossing off all that are leaves exactly those
     all-crossed : mask (interactions p) (eligible p (lane p k .state)) ≡ mask (interactions p) (crossedOff k (eligible p (lane p k .state)) .crossed)
     unfolding markOk
@@ -155,7 +153,7 @@ module _ (p : Plan) (e : planRefusal p ≡ 0) where
         mask-same (interactions p) (λ j. k .crossed j || eligible p (lane p k .state) j) (eligible p (lane p k .state))
         (λ j l. same-test (eligible p (lane p k .state) j) (k .crossed j || eligible p (lane p k .state) j)
         (or-right (k .crossed j) (eligible p (lane p k .state) j))
-        (λ t. or-cases (k .crossed j) (eligible p (lane p k .state) j) t (λ b. each _ (h .crossed-bad j l b) .1 .0) (λ b. b)))
+        (λ t. or-cases (k .crossed j) (eligible p (lane p k .state) j) t (λ b. mark-kept p (lane p k) j (h .crossed-bad j l b) .is-eligible) (λ b. b)))
 
     -- penned: the image marks the eligible moves, the book crosses them off
     penned-same : withMarks (bookImage p k) (mask (interactions p) (eligible p (lane p k .state))) ≡ bookImage p (crossedOff k (eligible p (lane p k .state)))
@@ -164,8 +162,9 @@ module _ (p : Plan) (e : planRefusal p ≡ 0) where
     settled-same : settled p (bookImage p k) ≡ outcome (bookSettled p k .answer) (bookImage p (bookSettled p k .book))
     unfolding settled bookSettled
     settled-same =
-        rw (held-lane, safe-same)
-        (bool-cases (ltb (bookSafe p k) (interactions p)) (λ t. rw t (ap (outcome (committed (bookSafe p k))) (image-listed p k (bookSafe p k))))
+        rw held-lane
+        (bool-cases (ltb (safeMove p (lane p k)) (interactions p))
+        (λ t. rw t (ap (outcome (committed (safeMove p (lane p k)))) (image-listed p k (safeMove p (lane p k)))))
         (λ t. bool-cases (some-below (interactions p) (enabled p (lane p k .state))) (λ u. rw (t, u) (ap (outcome penned) penned-same)) (λ u. rw (t, u) refl)))
 
     -- ---- one call
@@ -177,9 +176,14 @@ module _ (p : Plan) (e : planRefusal p ≡ 0) where
       pub not-crossed : k .crossed i ≡ false
 
     pub allowed-try : (i : ℕ) → bookRefusal p k i ≡ 0 → Allowed i
-    unfolding bookRefusal eligible numbered
-    allowed-try i r = let a = none-refused _ refl r in
-        record { number< = ltb-true _ _ (a .0); is-eligible = all-of _ (a .1 .0, (a .1 .1 .0, tt)); not-crossed = not-yes (k .crossed i) (a .1 .1 .1 .0) }
+    unfolding bookRefusal numbered keeps
+    allowed-try i r =
+        let kept = rule-kept _ refl r in
+        record {
+          number< = ltb-true _ _ (kept 16);
+          is-eligible = eligible-from p (lane p k .state) i (kept 17) (not-yes (outranked p (lane p k .state) i) (kept 18));
+          not-crossed = not-yes (k .crossed i) (kept 19);
+        }
 
     -- nothing but 16 to 19 refuses a call
     no-refusal : refusal (planRules p ++ imageRules p (bookImage p k)) ≡ 0
@@ -207,13 +211,15 @@ module _ (p : Plan) (e : planRefusal p ≡ 0) where
 
     -- ---- the book stays lawful
 
-    -- a good eligible move is listed
-    pub listed-lawful : (i : ℕ) → i < interactions p → eligible p (lane p k .state) i ≡ true → good p (after p (lane p k) i) ≡ true → Lawful p (listed k i)
-    unfolding eligible here
-    listed-lawful i l m g =
+    -- a move that may be committed is listed
+    pub listed-lawful : (i : ℕ) → i < interactions p → mayCommit p (lane p k) i ≡ true → Lawful p (listed k i)
+    unfolding here
+    listed-lawful i l m =
         record {
-          sound = rw (lane-listed p k i) (sound-after p here (lane p k) (h .sound) i l (each _ m .0));
-          is-good = rw (lane-listed p k i) g;
+          sound =
+              rw (lane-listed p k i)
+              (sound-after p here (lane p k) (h .sound) i l (eligible-enabled p (lane p k .state) i (commit-eligible p (lane p k) i m)));
+          is-good = rw (lane-listed p k i) (commit-good p (lane p k) i m);
           crossed-bad = λ j n b. absurd-bool b refl;
         }
 
@@ -230,9 +236,9 @@ module _ (p : Plan) (e : planRefusal p ≡ 0) where
     tried-lawful : (i : ℕ) → Allowed i → Lawful p (bookTried p k i .book)
     unfolding bookTried markOk
     tried-lawful i a =
-        bool-cases (good p (after p (lane p k) i)) (λ t. rw t (listed-lawful i (a .number<) (a .is-eligible) t))
+        bool-cases (good p (after p (lane p k) i)) (λ t. rw t (listed-lawful i (a .number<) (commit-from p (lane p k) i (a .is-eligible) t)))
         (λ t. rw t (crossed-lawful (λ j. eqb j i)
-        (λ j l b. rw (eqb-true j i b) (all-of _ (lt-ltb i (interactions p) (a .number<), (a .is-eligible, (ap not t, tt)))))))
+        (λ j l b. rw (eqb-true j i b) (all-of _ (lt-ltb i (interactions p) (a .number<), (a .is-eligible, (ap not (bad-uncommitted p (lane p k) i t), tt)))))))
 
     wrong-lawful : (i n : ℕ) → bookRefusal p k i ≡ n → Lawful p (unlessWrong n k (bookTried p k i) .book)
     unfolding unlessWrong
@@ -240,27 +246,14 @@ module _ (p : Plan) (e : planRefusal p ≡ 0) where
     wrong-lawful i (suc n) r = h
 
     settled-lawful : Lawful p (bookSettled p k .book)
-    unfolding bookSettled bookSafe markOk
+    unfolding bookSettled markOk
     settled-lawful =
-        let f : ℕ → Bool = λ i. allOf (eligible p (lane p k .state) i ∷ good p (after p (lane p k) i) ∷ []) in
-        bool-cases (ltb (bookSafe p k) (interactions p))
-        (λ t.
-        let l : bookSafe p k < interactions p = ltb-true _ _ t in
-        let q = each _ (lowest-is (interactions p) f .hit l) in
-        rw t (listed-lawful (bookSafe p k) l (q .0) (q .1 .0)))
+        bool-cases (ltb (safeMove p (lane p k)) (interactions p))
+        (λ t. let l = ltb-true _ _ t in rw t (listed-lawful (safeMove p (lane p k)) l (safe-commits p (lane p k) l)))
         (λ t. bool-cases (some-below (interactions p) (enabled p (lane p k .state)))
         (λ u. rw (t, u) (crossed-lawful (eligible p (lane p k .state))
-        (λ i l b. all-of _ (lt-ltb i (interactions p) l, (b, (no-good i l b t, tt))))))
+        (λ i l b. all-of _ (lt-ltb i (interactions p) l, (b, (ap not (safe-none p (lane p k) t i l), tt))))))
         (λ u. rw (t, u) h))
-      where
-        no-good : (i : ℕ) → i < interactions p → eligible p (lane p k .state) i ≡ true
-            → ltb (lowest (interactions p) (λ j. allOf (eligible p (lane p k .state) j ∷ good p (after p (lane p k) j) ∷ []))) (interactions p) ≡ false
-            → not (good p (after p (lane p k) i)) ≡ true
-        no-good i l b t =
-            let f : ℕ → Bool = λ j. allOf (eligible p (lane p k .state) j ∷ good p (after p (lane p k) j) ∷ []) in
-            bool-cases (good p (after p (lane p k) i))
-            (λ g. absurd-bool (all-of (eligible p (lane p k .state) i ∷ good p (after p (lane p k) i) ∷ []) (b, (g, tt))) (lowest-none (interactions p) f t i l))
-            (λ g. ap not g)
 
     pub turn-lawful : (c : Call) → Lawful p (turn p k c .book)
     unfolding turn bookOffered

@@ -4,20 +4,20 @@ use Prim.Native.Nat.{ℕ, zero, suc, _<_}
 use mathlib.Core.Bool.{Bool, true, false, not, cond, _&&_, _||_}
 use mathlib.Core.List.{List, [], _∷_, _++_}
 use lib.Dec.{ltb, eqb}
-use Rattle.semantics.specs.Bytes.{allOf, some-below}
+use Rattle.semantics.specs.Bytes.{some-below}
 use Rattle.semantics.specs.Plan.{Plan, interactions}
 use Rattle.semantics.specs.Rules.{planRefusal}
-use Rattle.semantics.specs.Move.{Configuration, enabled, eligible, after, good}
+use Rattle.semantics.specs.Move.{enabled, eligible, after, good, mayCommit, safeMove}
 use Rattle.semantics.specs.Image.{Image}
 use Rattle.semantics.specs.Calls.{Answer, offers, committed, cancelled, stalled, penned, refused, Outcome, outcome, Call, offered, try, settle}
-use Rattle.semantics.specs.Book.{Book, lane, bookImage, listed, crossedOff, Entry, entry, bookOffered, bookRefusal, bookTried, unlessWrong, bookSafe, bookSettled, turn, told, kept}
+use Rattle.semantics.specs.Book.{Book, lane, bookImage, listed, crossedOff, Entry, entry, bookOffered, bookRefusal, bookTried, unlessWrong, bookSettled, turn, told, kept}
 use Rattle.semantics.specs.Run.{commits, crosses, leftBy}
-use Rattle.semantics.proofs.Basics.{bool-cases, each, ltb-true, lowest-is}
+use Rattle.semantics.proofs.Basics.{bool-cases, ltb-true}
+use Rattle.semantics.proofs.Ranking.{commit-from, safe-commits}
 use Rattle.semantics.proofs.BookStep.{Lawful, allowed-try, turn-lawful}
 
 pub data Turned (p : Plan) (k : Book) : Entry → Type 0 where
-  commits-move : (i : ℕ) → i < interactions p → eligible p (lane p k .state) i ≡ true → good p (after p (lane p k) i) ≡ true
-      → Turned p k (entry (committed i) (listed k i))
+  commits-move : (i : ℕ) → i < interactions p → mayCommit p (lane p k) i ≡ true → Turned p k (entry (committed i) (listed k i))
   crosses-off : (a : Answer) (f : ℕ → Bool) → commits a ≡ false → ((j : ℕ) → crosses p (lane p k) j a ≡ f j) → Turned p k (entry a (crossedOff k f))
   changes-nothing : (a : Answer) → commits a ≡ false → ((j : ℕ) → crosses p (lane p k) j a ≡ false) → Turned p k (entry a k)
 
@@ -26,19 +26,15 @@ module _ (p : Plan) (e : planRefusal p ≡ 0) (k : Book) (h : Lawful p k) where
   unfolding unlessWrong bookTried crosses
   turned-try i zero r =
       let a = allowed-try p e k h i r in
-      bool-cases (good p (after p (lane p k) i)) (λ t. rw t (commits-move i (a .number<) (a .is-eligible) t))
+      bool-cases (good p (after p (lane p k) i)) (λ t. rw t (commits-move i (a .number<) (commit-from p (lane p k) i (a .is-eligible) t)))
       (λ t. rw t (crosses-off (cancelled i) (λ j. eqb j i) refl (λ j. refl)))
   turned-try i (suc n) r = changes-nothing (refused (suc n)) refl (λ j. refl)
 
   turned-settle : Turned p k (bookSettled p k)
-  unfolding bookSettled bookSafe crosses
+  unfolding bookSettled crosses
   turned-settle =
-      let f : ℕ → Bool = λ i. allOf (eligible p (lane p k .state) i ∷ good p (after p (lane p k) i) ∷ []) in
-      bool-cases (ltb (bookSafe p k) (interactions p))
-      (λ t.
-      let l : bookSafe p k < interactions p = ltb-true _ _ t in
-      let q = each _ (lowest-is (interactions p) f .hit l) in
-      rw t (commits-move (bookSafe p k) l (q .0) (q .1 .0)))
+      bool-cases (ltb (safeMove p (lane p k)) (interactions p))
+      (λ t. let l = ltb-true _ _ t in rw t (commits-move (safeMove p (lane p k)) l (safe-commits p (lane p k) l)))
       (λ t. bool-cases (some-below (interactions p) (enabled p (lane p k .state)))
       (λ u. rw (t, u) (crosses-off penned (eligible p (lane p k .state)) refl (λ j. refl)))
       (λ u. rw (t, u) (changes-nothing stalled refl (λ j. refl))))

@@ -4,7 +4,6 @@ use mathlib.Core.Path.{_≡_, refl, sym, ap, _∙_, subst}
 use Prim.Native.Nat.{ℕ}
 use mathlib.Core.Bool.{Bool, true, false, cond}
 use mathlib.Core.List.{List, [], _∷_, _++_}
-use lib.ListN.{take, drop}
 use Rattle.semantics.specs.Bytes.{leBytes, mask}
 use Rattle.semantics.specs.Plan.{Plan}
 use Rattle.semantics.specs.Rules.{planRefusal}
@@ -12,14 +11,10 @@ use Rattle.semantics.specs.Image.{Image, head, image}
 use Rattle.semantics.specs.Calls.{Answer, committed, Outcome, outcome, start, Call, calledAll}
 use Rattle.semantics.specs.Book.{Book, blank, lane, bookImage, listed, crossedOff, Entry, entry, turn, told}
 use Rattle.semantics.specs.Run.{commits, leftBy, lastCommitted}
+pub use Rattle.semantics.proofs.OneCall.{SameButMarks}
 use Rattle.semantics.proofs.BookStep.{Lawful, turn-lawful}
 use Rattle.semantics.proofs.BookTurns.{Turned, commits-move, crosses-off, changes-nothing, turned}
 use Rattle.semantics.proofs.Demand3.{Starts, start-plan, start-is, blank-lawful, calls-told}
-
--- two images are the same but for the marks, bytes 16 to 23
-pub record SameButMarks (a b : Image) : Type 0 where
-  pub before : take 16 a ≡ take 16 b
-  pub behind : drop 24 a ≡ drop 24 b
 
 -- the image of a book with moves crossed off is that of the book but for the marks
 crossed-image : (p : Plan) (k : Book) (f : ℕ → Bool) (b : Image) → SameButMarks (bookImage p k) b → SameButMarks (bookImage p (crossedOff k f)) b
@@ -29,7 +24,7 @@ crossed-image p k f b s = record { before = s .before; behind = s .behind }
 module _ (p : Plan) (e : planRefusal p ≡ 0) where
   one-turn : (k : Book) (n : Entry) (b : Image) → Turned p k n → SameButMarks (bookImage p k) b
       → SameButMarks (bookImage p (n .book)) (cond (commits (n .answer)) (bookImage p (n .book)) b)
-  one-turn k n b (commits-move i l m g) s = record { before = refl; behind = refl }
+  one-turn k n b (commits-move i l m) s = record { before = refl; behind = refl }
   one-turn k n b (crosses-off a f c x) s = rw c (crossed-image p k f b s)
   one-turn k n b (changes-nothing a c x) s = rw c s
 

@@ -5,12 +5,12 @@ use mathlib.Core.Bool.{Bool, true, false, cond}
 use mathlib.Core.List.{List, [], _∷_, _++_}
 use Rattle.semantics.specs.Plan.{Plan, interactions}
 use Rattle.semantics.specs.Rules.{planRefusal}
-use Rattle.semantics.specs.Move.{Configuration, eligible, after, initial}
+use Rattle.semantics.specs.Move.{initial}
 use Rattle.semantics.specs.Image.{Image}
 use Rattle.semantics.specs.Calls.{Answer, committed, Outcome, outcome, start, Call, calledAll}
 use Rattle.semantics.specs.Book.{Book, blank, lane, replay, bookImage, listed, crossedOff, Entry, entry, turn, told}
 use Rattle.semantics.specs.Run.{isRun, commits, committedMoves}
-use Rattle.semantics.proofs.Basics.{each, all-of, lt-ltb}
+use Rattle.semantics.proofs.Basics.{all-of, lt-ltb}
 use Rattle.semantics.proofs.BookStep.{Lawful, turn-lawful, lane-listed, lane-crossed}
 use Rattle.semantics.proofs.BookTurns.{Turned, commits-move, crosses-off, changes-nothing, turned}
 use Rattle.semantics.proofs.Demand3.{Starts, start-plan, blank-lawful, calls-told}
@@ -18,9 +18,8 @@ use Rattle.semantics.proofs.Demand3.{Starts, start-plan, blank-lawful, 
 module _ (p : Plan) (e : planRefusal p ≡ 0) where
   one-turn : (k : Book) (n : Entry) (is : List ℕ) → Turned p k n → isRun p (lane p (n .book)) is ≡ true
       → isRun p (lane p k) (cond (commits (n .answer)) (n .answer .number ∷ is) is) ≡ true
-  unfolding isRun eligible
-  one-turn k n is (commits-move i l m g) r =
-      let q = each _ m in all-of _ (lt-ltb i (interactions p) l, (q .0, (q .1 .0, (g, (rw (lane-listed p k i) at r, tt)))))
+  unfolding isRun
+  one-turn k n is (commits-move i l m) r = all-of _ (lt-ltb i (interactions p) l, (m, (rw (lane-listed p k i) at r, tt)))
   one-turn k n is (crosses-off a f c x) r = rw c (rw (lane-crossed p k f) at r)
   one-turn k n is (changes-nothing a c x) r = rw c r
 

@@ -125,7 +125,9 @@ apart-commute p names others g h g-ok h-ok apart s =
 pub one-owner : (p : Plan) (c d : ℕ) → (c ≡ d → ⊥) → (v : ℕ) → ownedBy p c v ≡ true → ownedBy p d v ≡ false
 unfolding ownedBy
 one-owner p c d different v e =
-    bool-cases (ownedBy p d v) (λ q. absurd (different (sym (eqb-true (owner p v) c (each _ e .1 .0)) ∙ eqb-true (owner p v) d (each _ q .1 .0)))) (λ q. q)
+    let (_, (c-owns, _)) = each _ e in
+    bool-cases (ownedBy p d v)
+    (λ q. let (_, (d-owns, _)) = each _ q in absurd (different (sym (eqb-true (owner p v) c c-owns) ∙ eqb-true (owner p v) d d-owns))) (λ q. q)
 
 -- the actions of two transitions of different components commute
 pub actions-commute : (p : Plan) → planRefusal p ≡ 0 → (t u : ℕ) → t < transitions p → u < transitions p → (componentOf p t ≡ componentOf p u → ⊥)

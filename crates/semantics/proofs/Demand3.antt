@@ -1,20 +1,21 @@
 -- Demand 3, whole: from an accepted start on, for every list of calls, every answer and every byte of the image after each call are the book's.
-use mathlib.Core.Path.{_≡_, refl, sym, ap, ap₂, _∙_, subst}
+use mathlib.Core.Path.{_≡_, refl, sym, ap, _∙_}
 use Prim.Native.Nat.{ℕ, zero, suc}
 use native.Mathlib.Omega.{arith}
-use mathlib.Core.Bool.{Bool, true, false}
-use mathlib.Core.List.{List, [], _∷_, _++_}
+use mathlib.Core.Bool.{true}
+use mathlib.Core.List.{List, [], _∷_}
 use Rattle.semantics.specs.Plan.{Plan}
-use Rattle.semantics.specs.Refusal.{rule, refusal}
+use Rattle.semantics.specs.Refusal.{refusal}
 use Rattle.semantics.specs.Rules.{planRules, planRefusal}
 use Rattle.semantics.specs.Move.{initial, good}
 use Rattle.semantics.specs.Image.{Image, image, lengthRule}
-use Rattle.semantics.specs.Calls.{Answer, accepted, refused, Outcome, outcome, unlessRefused, startRules, start, Call, called, calledAll, session}
+use Rattle.semantics.specs.Calls.{Answer, accepted, Outcome, outcome, unlessRefused, startRules, start, Call, calledAll, session}
 use Rattle.semantics.specs.Book.{Book, blank, lane, replay, bookImage, turn, told, bookSession}
 use Rattle.semantics.proofs.Basics.{absurd-bool}
 use Rattle.semantics.proofs.Masks.{mask-none}
-use Rattle.semantics.proofs.Refusing.{numbered, none-refused, refusal-before, refusal-after}
-use Rattle.semantics.proofs.AcceptedPlan.{accepted-plan, plan-numbered}
+use Rattle.semantics.proofs.Refusing.{numbered, refusal-before}
+use Rattle.semantics.proofs.RuleLists.{keeps, rule-kept}
+use Rattle.semantics.proofs.AcceptedPlan.{accepted-plan}
 use Rattle.semantics.proofs.Sound.{sound-initial}
 use Rattle.semantics.proofs.BookStep.{Lawful, one-call, turn-lawful}
 
@@ -36,11 +37,11 @@ start-rules p b e = not-refused (refusal (startRules p b)) b _ (ap (λ (a : Answ
 
 pub start-plan : (p : Plan) (b : Image) → Starts p b → planRefusal p ≡ 0
 unfolding planRefusal startRules
-start-plan p b e = refusal-before (planRules p) _ (start-rules p b e) (plan-numbered p)
+start-plan p b e = refusal-before (planRules p) _ (start-rules p b e)
 
 pub start-good : (p : Plan) (b : Image) → Starts p b → good p (initial p) ≡ true
-unfolding startRules numbered planRules lengthRule
-start-good p b e = none-refused (startRules p b) refl (start-rules p b e) .1 .1 .1 .1 .1 .1 .1 .1 .1 .1 .1 .0
+unfolding startRules numbered planRules lengthRule keeps
+start-good p b e = rule-kept (startRules p b) refl (start-rules p b e) 15
 
 -- it answers accepted and leaves the book's first image
 pub start-is : (p : Plan) (b : Image) → Starts p b → start p b ≡ outcome accepted (bookImage p blank)

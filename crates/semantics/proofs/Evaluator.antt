@@ -9,7 +9,7 @@ use lib.ListN.{length, getD, set, drop}
 use lib.Seq.{getD-drop}
 use lib.Dec.{ltb}
 use lib.IntN.{ℤ, pos, negsuc}
-use Rattle.semantics.specs.Plan.{Plan, Span, variables, transitions, interactions, propositions, guardOf, actionOf, interactionGuard, transferOf, propositionOf, componentOf, word}
+use Rattle.semantics.specs.Plan.{Plan, Span, maxVariables, variables, transitions, interactions, propositions, guardOf, actionOf, interactionGuard, transferOf, propositionOf, componentOf, word}
 use Rattle.semantics.specs.Signed.{signed, residue, wrap, add, subtract, extend, truth}
 use Rattle.semantics.specs.Code.{State, Instruction, push, extendTop, load, store, located, lastPort, operator, unknown, instruction, decode, operate, operatorPops, Machine, perform, ran, acted, Role, asGuard, asUpdate, asProposition, ownedBy, sharedIn, declared, pops, finalDepth, spanOk}
 use Rattle.semantics.specs.Rules.{planRefusal}
@@ -226,7 +226,7 @@ evaluator-inside p e =
 
 -- what an update keeps
 pub record Valued (p : Plan) (vs : List ℤ) : Type 0 where
-  pub long : length vs ≡ 64
+  pub long : length vs ≡ maxVariables
   pub words : Words vs
   pub unused : (v : ℕ) → variables p ≤ v → getD vs v (pos 0) ≡ pos 0
 

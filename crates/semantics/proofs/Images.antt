@@ -1,29 +1,28 @@
 -- The image and back: what is written is read again, and a written image passes 11 and 12.
 use mathlib.Core.Path.{_≡_, refl, sym, ap, ap₂, _∙_, subst}
-use Prim.Native.Nat.{ℕ, zero, suc, _+_, _*_, _-_, _%_, _≤_, _<_}
+use Prim.Native.Nat.{ℕ, zero, suc, _+_, _*_, _<_}
 use native.Mathlib.Nat.{le-of-suc-le-suc, not-suc-le-zero, add-assoc}
 use native.Mathlib.Omega.{arith}
-use mathlib.Core.Bool.{Bool, true, false, cond, _||_}
+use mathlib.Core.Bool.{true}
 use mathlib.Core.List.{List, [], _∷_, _++_, append-assoc}
 use lib.ListN.{length, getD, take, drop, length-append}
-use lib.Seq.{take-at, drop-at, drop-drop, getD-append-add, ext-getD}
-use lib.Dec.{ltb, eqb}
+use lib.Seq.{take-at, drop-at, getD-append-add, ext-getD}
 use lib.IntN.{ℤ, pos, negsuc}
 use Rattle.semantics.specs.Bytes.{byte, u32, u64, leBytes, every, table}
 use Rattle.semantics.specs.Signed.{signed, residue, wrap}
-use Rattle.semantics.specs.Plan.{Plan, components, variables, interactions}
+use Rattle.semantics.specs.Plan.{Plan, maxComponents, maxVariables}
 use Rattle.semantics.specs.Code.{State}
 use Rattle.semantics.specs.Move.{Configuration}
-use Rattle.semantics.specs.Image.{Image, head, valueBytes, image, withMarks, marksOf, configurationOf, headMatches}
+use Rattle.semantics.specs.Image.{imageLength, head, valueBytes, image, withMarks, marksOf, configurationOf, headMatches}
 use Rattle.semantics.proofs.Basics.{length-table, getD-table, eqb-same}
 use Rattle.semantics.proofs.Masks.{length-leBytes, u32-back}
 use Rattle.semantics.proofs.Evaluator.{Words}
 
 -- a state whose lists are as long as the image has room, each value a signed 32-bit number
 pub record Shaped (s : State) : Type 0 where
-  pub locations-16 : length (s .locations) ≡ 16
-  pub ports-16 : length (s .lastPorts) ≡ 16
-  pub values-64 : length (s .values) ≡ 64
+  pub locations-16 : length (s .locations) ≡ maxComponents
+  pub ports-16 : length (s .lastPorts) ≡ maxComponents
+  pub values-64 : length (s .values) ≡ maxVariables
   pub words : Words (s .values)
 
 -- ---- values
@@ -72,7 +71,7 @@ length-front p c m h =
     let e : length (c .state .locations ++ c .state .lastPorts) ≡ 32 = length-append (c .state .locations) (c .state .lastPorts) ∙ ap₂ _+_ (h .locations-16) (h .ports-16) in
     ap (λ (n : ℕ). suc (suc (suc (suc (suc (suc (suc (suc (suc (suc (suc (suc (suc (suc (suc (suc (suc (suc (suc (suc (suc (suc (suc (suc n)))))))))))))))))))))))) e
 
-pub length-image : (p : Plan) (c : Configuration) (m : ℕ) → Shaped (c .state) → length (image p c m) ≡ 312
+pub length-image : (p : Plan) (c : Configuration) (m : ℕ) → Shaped (c .state) → length (image p c m) ≡ imageLength
 unfolding image front
 length-image p c m h =
     length-append (front p c m) (valueBytes (c .state .values))
@@ -90,27 +89,27 @@ pub head-matches : (p : Plan) (c : Configuration) (m : ℕ) → headMatches p (i
 unfolding headMatches every image head leBytes
 head-matches p c m = simp eqb-same
 
-locations-back : (p : Plan) (c : Configuration) (m : ℕ) → Shaped (c .state) → take 16 (drop 24 (image p c m)) ≡ c .state .locations
+locations-back : (p : Plan) (c : Configuration) (m : ℕ) → Shaped (c .state) → take maxComponents (drop 24 (image p c m)) ≡ c .state .locations
 unfolding image head leBytes
 locations-back p c m h =
-    ap (take 16) (append-assoc (c .state .locations) (c .state .lastPorts) (valueBytes (c .state .values)))
-    ∙ take-at (c .state .locations) (c .state .lastPorts ++ valueBytes (c .state .values)) 16 (h .locations-16)
+    ap (take maxComponents) (append-assoc (c .state .locations) (c .state .lastPorts) (valueBytes (c .state .values)))
+    ∙ take-at (c .state .locations) (c .state .lastPorts ++ valueBytes (c .state .values)) maxComponents (h .locations-16)
 
-ports-back : (p : Plan) (c : Configuration) (m : ℕ) → Shaped (c .state) → take 16 (drop 40 (image p c m)) ≡ c .state .lastPorts
+ports-back : (p : Plan) (c : Configuration) (m : ℕ) → Shaped (c .state) → take maxComponents (drop 40 (image p c m)) ≡ c .state .lastPorts
 unfolding image head leBytes
 ports-back p c m h =
-    ap (λ (l : List ℕ). take 16 (drop 16 l)) (append-assoc (c .state .locations) (c .state .lastPorts) (valueBytes (c .state .values)))
-    ∙ ap (take 16) (drop-at (c .state .locations) (c .state .lastPorts ++ valueBytes (c .state .values)) 16 (h .locations-16))
-    ∙ take-at (c .state .lastPorts) (valueBytes (c .state .values)) 16 (h .ports-16)
+    ap (λ (l : List ℕ). take maxComponents (drop maxComponents l)) (append-assoc (c .state .locations) (c .state .lastPorts) (valueBytes (c .state .values)))
+    ∙ ap (take maxComponents) (drop-at (c .state .locations) (c .state .lastPorts ++ valueBytes (c .state .values)) maxComponents (h .locations-16))
+    ∙ take-at (c .state .lastPorts) (valueBytes (c .state .values)) maxComponents (h .ports-16)
 
-values-back : (p : Plan) (c : Configuration) (m : ℕ) → Shaped (c .state) → table 64 (λ v. signed (u32 (image p c m) (56 + 4 * v))) ≡ c .state .values
+values-back : (p : Plan) (c : Configuration) (m : ℕ) → Shaped (c .state) → table maxVariables (λ v. signed (u32 (image p c m) (56 + 4 * v))) ≡ c .state .values
 unfolding image front
 values-back p c m h =
     let f : ℕ → ℤ = λ v. signed (u32 (image p c m) (56 + 4 * v)) in
-    ext-getD (pos 0) (table 64 f) (c .state .values) (length-table 64 f ∙ sym (h .values-64))
+    ext-getD (pos 0) (table maxVariables f) (c .state .values) (length-table maxVariables f ∙ sym (h .values-64))
     (λ v l.
-    let k : v < 64 = subst (λ (n : ℕ). v < n) (length-table 64 f) l in
-    getD-table 64 f (pos 0) v k
+    let k : v < maxVariables = subst (λ (n : ℕ). v < n) (length-table maxVariables f) l in
+    getD-table maxVariables f (pos 0) v k
     ∙ ap signed (u32-past (front p c m) (valueBytes (c .state .values)) 56 (4 * v) (length-front p c m h))
     ∙ value-at (c .state .values) v (h .words) (subst (λ (n : ℕ). v < n) (sym (h .values-64)) k))
 

@@ -1,43 +1,35 @@
 -- Demand 3, second corollary: after any calls from an accepted start on, the marks are exactly the moves crossed off since the last start or
 -- commit, and none of them ends good.
-use mathlib.Core.Path.{_≡_, refl, sym, ap, ap₂, _∙_, subst}
-use Prim.Native.Nat.{ℕ, _<_}
-use mathlib.Core.Bool.{Bool, true, false, not, cond, _&&_, _||_}
-use mathlib.Core.List.{List, [], _∷_, _++_}
+use mathlib.Core.Path.{_≡_, refl, sym, ap, _∙_}
+use Prim.Native.Nat.{ℕ}
+use mathlib.Core.Bool.{Bool, true, false, not, cond, _||_, or-false, or-assoc}
+use mathlib.Core.List.{List, [], _∷_}
 use lib.Dec.{ltb}
 use Rattle.semantics.specs.Bytes.{bit, mask}
 use Rattle.semantics.specs.Plan.{Plan, interactions}
 use Rattle.semantics.specs.Rules.{planRefusal}
-use Rattle.semantics.specs.Move.{Configuration, enabled, outranked, eligible, after, good}
+use Rattle.semantics.specs.Move.{Configuration}
 use Rattle.semantics.specs.Image.{Image, marksOf, configurationOf, markOk}
-use Rattle.semantics.specs.Calls.{Answer, committed, Outcome, outcome, start, Call, calledAll}
-use Rattle.semantics.specs.Book.{Book, blank, lane, bookImage, listed, crossedOff, Entry, entry, turn, told, kept}
+use Rattle.semantics.specs.Calls.{Outcome, start, Call, calledAll}
+use Rattle.semantics.specs.Book.{Book, blank, lane, bookImage, Entry, turn, told, kept}
 use Rattle.semantics.specs.Run.{commits, noCommit, sinceCommit, leftBy, crosses, someCrosses}
-use Rattle.semantics.proofs.Basics.{bool-cases, absurd-bool, not-yes, and-both, each, ltb-true, ltb-false}
+use Rattle.semantics.proofs.Basics.{bool-cases, absurd-bool, not-yes, and-both, ltb-true, ltb-false}
 use Rattle.semantics.proofs.Masks.{bit-mask, bit-mask-over, mask-same}
 use Rattle.semantics.proofs.BookStep.{Lawful, turn-lawful, held-lane, held-marks}
 use Rattle.semantics.proofs.BookTurns.{Turned, commits-move, crosses-off, changes-nothing, turned, left-told, kept-lawful}
 use Rattle.semantics.proofs.Demand3.{Starts, start-plan, start-is, blank-lawful, calls-told}
-
-or-none : (a : Bool) → (a || false) ≡ a
-or-none true = refl
-or-none false = refl
-
-or-assoc : (a b c : Bool) → (a || b || c) ≡ (a || (b || c))
-or-assoc true b c = refl
-or-assoc false b c = refl
 
 -- where nothing was committed, all outcomes are since the last commit
 since-all : (os : List Outcome) → noCommit os ≡ true → sinceCommit os ≡ os
 unfolding noCommit sinceCommit
 since-all [] e = refl
 since-all (o ∷ os) e =
-    let h = and-both (not (commits (o .answer))) (noCommit os) e in rw (h .1, not-yes (commits (o .answer)) (h .0))
+    let (first, rest) = and-both (not (commits (o .answer))) (noCommit os) e in rw (rest, not-yes (commits (o .answer)) first)
 
 module _ (p : Plan) (e : planRefusal p ≡ 0) where
   lane-stays : (k : Book) (n : Entry) → Turned p k n → commits (n .answer) ≡ false → lane p (n .book) ≡ lane p k
   unfolding lane
-  lane-stays k n (commits-move i l m g) c = absurd-bool refl c
+  lane-stays k n (commits-move i l m) c = absurd-bool refl c
   lane-stays k n (crosses-off a f d x) c = refl
   lane-stays k n (changes-nothing a d x) c = refl
 
@@ -51,12 +43,12 @@ module _ (p : Plan) (e : planRefusal p ≡ 0) where
       ∙ lane-stays k (turn p k c) (turned p e k h c) (not-yes (commits (turn p k c .answer)) (q .0))
 
   set-stays : (k : Book) (n : Entry) → Turned p k n → commits (n .answer) ≡ false → (j : ℕ) → n .book .crossed j ≡ (k .crossed j || crosses p (lane p k) j (n .answer))
-  set-stays k n (commits-move i l m g) c j = absurd-bool refl c
+  set-stays k n (commits-move i l m) c j = absurd-bool refl c
   set-stays k n (crosses-off a f d x) c j = rw (x j)
-  set-stays k n (changes-nothing a d x) c j = rw (x j) (sym (or-none (k .crossed j)))
+  set-stays k n (changes-nothing a d x) c j = rw (x j) (sym (or-false (k .crossed j)))
 
   set-emptied : (k : Book) (n : Entry) → Turned p k n → commits (n .answer) ≡ true → (j : ℕ) → n .book .crossed j ≡ false
-  set-emptied k n (commits-move i l m g) c j = refl
+  set-emptied k n (commits-move i l m) c j = refl
   set-emptied k n (crosses-off a f d x) c j = absurd-bool c d
   set-emptied k n (changes-nothing a d x) c j = absurd-bool c d
 
@@ -64,7 +56,7 @@ module _ (p : Plan) (e : planRefusal p ≡ 0) where
   set-kept : (k : Book) → Lawful p k → (cs : List Call) (j : ℕ)
       → kept p k cs .crossed j ≡ (cond (noCommit (told p k cs)) (k .crossed j) false || someCrosses p (lane p (kept p k cs)) j (sinceCommit (told p k cs)))
   unfolding kept told noCommit sinceCommit someCrosses
-  set-kept k h [] j = sym (or-none (k .crossed j))
+  set-kept k h [] j = sym (or-false (k .crossed j))
   set-kept k h (c ∷ cs) j =
       let n : Entry = turn p k c in
       let t : Turned p k n = turned p e k h c in

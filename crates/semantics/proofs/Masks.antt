@@ -3,12 +3,12 @@ use mathlib.Core.Path.{_≡_, refl, sym, ap, ap₂, _∙_, subst}
 use Prim.Native.Nat.{ℕ, zero, suc, _+_, _*_, _/_, _%_, _^_, _≤_, _<_, zero-le, suc-le-suc}
 use native.Mathlib.Nat.{le-of-suc-le-suc, not-suc-le-zero, pow-suc}
 use native.Mathlib.Omega.{arith}
-use mathlib.Core.Bool.{Bool, true, false, cond, _||_, true≢false}
-use mathlib.Core.List.{List, [], _∷_, _++_}
-use lib.ListN.{length, getD}
-use lib.Dec.{eqb}
-use Rattle.semantics.specs.Bytes.{byte, u32, u64, leBytes, bit, mask}
-use Rattle.semantics.proofs.Basics.{bool-cases, eqb-same}
+use mathlib.Core.Bool.{Bool, true, false, cond}
+use mathlib.Core.List.{List, _++_}
+use lib.ListN.{length}
+use lib.Dec.{ltb, eqb}
+use Rattle.semantics.specs.Bytes.{u32, u64, leBytes, bit, mask}
+use Rattle.semantics.proofs.Basics.{bool-cases, absurd-bool, ltb-true, ltb-false}
 
 -- ---- bits of a mask
 
@@ -74,6 +74,24 @@ mask-same n f g e = mask-wider n n f g (omega arith) e (λ k h l. absurd (clash 
 pub mask-none : (n : ℕ) → mask n (λ k. false) ≡ 0
 unfolding mask
 mask-none n = mask-wider zero n (λ k. false) (λ k. false) zero-le (λ k h. refl) (λ k h l. refl)
+
+-- a bit of a mask of n tests is below n, and its test holds
+pub mask-holds : (n : ℕ) (f : ℕ → Bool) (j : ℕ) → bit (mask n f) j ≡ true → (j < n) × (f j ≡ true)
+mask-holds n f j e =
+    bool-cases (ltb j n) (λ l. (ltb-true j n l, sym (bit-mask n f j (ltb-true j n l)) ∙ e))
+    (λ l. absurd-bool e (bit-mask-over n f j (ltb-false j n l)))
+
+digit-back : (m d : ℕ) → m % 2 ≡ d → cond (eqb d 1) 1 0 + 2 * (m / 2) ≡ m
+digit-back m zero e = omega arith
+digit-back m (suc zero) e = omega arith
+digit-back m (suc (suc d)) e = absurd (omega arith)
+
+-- a number below 2 ^ n is the mask of its bits
+pub mask-bits : (n m : ℕ) → m < 2 ^ n → mask n (bit m) ≡ m
+unfolding mask bit
+mask-bits zero m h = omega arith
+mask-bits (suc n) m h =
+    ap (λ (x : ℕ). cond (eqb (m % 2) 1) 1 0 + 2 * x) (mask-bits n (m / 2) (omega (arith, pow-suc 2 n))) ∙ digit-back m (m % 2) refl
 
 -- ---- bytes
 

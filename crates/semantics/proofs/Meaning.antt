@@ -1,11 +1,11 @@
--- All definitions opened at once: what a proof says that computes them.
-use Rattle.semantics.specs.Book.{replay, lane, bookImage, bookOffered, bookRefusal, bookTried, unlessWrong, bookSafe, bookSettled, turn, told, kept, bookSession}
-use Rattle.semantics.specs.Bytes.{u16, u32, u64, leBytes, allOf, implies, every, some-below, lowest, table, bit, mask}
-use Rattle.semantics.specs.Calls.{packed, unlessRefused, check, startRules, start, clerkRules, offeredMask, withBit, tried, safeMove, settled, callRules, performed, called, offeredBits, calledAll, session}
+-- All definitions opened at once, a module of specs/ at a time: what a proof says that computes them.
+use Rattle.semantics.specs.Book.{replay, lane, bookImage, bookOffered, bookRefusal, bookTried, unlessWrong, bookSettled, turn, told, kept, bookSession}
+use Rattle.semantics.specs.Bytes.{u16, u32, u64, leBytes, allOf, implies, every, some-below, lowest, table, bit, mask, withBit}
+use Rattle.semantics.specs.Calls.{packed, unlessRefused, check, startRules, start, clerkRules, offeredMask, tried, settled, callRules, performed, called, offeredBits, calledAll, session}
 use Rattle.semantics.specs.Cases.{agree, allAgree, startImage, taredImage, cases}
-use Rattle.semantics.specs.Code.{instruction, decode, operate, operatorPops, operatorPushes, perform, ran, guardHolds, acted, ownedBy, sharedIn, declared, allowed, pops, pushes, shifted, deeper, depth, finalDepth, endsAt, spanOk}
+use Rattle.semantics.specs.Code.{instruction, decode, operate, operatorPops, operatorPushes, perform, ran, guardHolds, acted, ownedBy, sharedIn, declared, allowed, pops, pushes, depthAfter, deeper, depth, finalDepth, endsAt, spanOk}
 use Rattle.semantics.specs.Image.{head, valueBytes, image, withMarks, marksOf, configurationOf, headMatches, locationOk, lastPortOk, valueOk, configurationOk, markOk, marksOk, lengthRule, imageRules}
-use Rattle.semantics.specs.Move.{ready, chosen, used, enabled, outranked, eligible, actedBelow, fired, letter, judged, after, good, initialState, initial}
+use Rattle.semantics.specs.Move.{ready, chosen, chosenIn, enabled, outranked, eligible, actedBelow, fired, letter, judged, after, oracleInRange, oracleGood, good, mayCommit, safeMove, initialState, initial}
 use Rattle.semantics.specs.Plan.{sectionSize, sectionStart, takesPart, below, verdict, next}
 use Rattle.semantics.specs.Refusal.{unless, refusal}
 use Rattle.semantics.specs.Rules.{within, headOk, countsOk, layoutOk, componentOk, variableOk, transitionOk, portOk, interactionOk, rankOk, verdictOk, followerOk, oracleOk, transitionCode, interactionCode, propositionCode, codeOk, planRules, planRefusal}
@@ -13,6 +13,54 @@ use Rattle.semantics.specs.Run.{isRun, committedMoves, noCommit, crosses
 use Rattle.semantics.specs.Sample.{joined, places, sections, counts, offsets, written, scale, sample, ranked, weighedAtStart, still, underflow}
 use Rattle.semantics.specs.Signed.{signed, residue, wrap, add, subtract, extend, equalZ, atLeast, holds, truth}
 
-unfoldable pub meaning : Unit {0}
-unfolding replay lane bookImage bookOffered bookRefusal bookTried unlessWrong bookSafe bookSettled turn told kept bookSession u16 u32 u64 leBytes allOf implies every some-below lowest table bit mask packed unlessRefused check startRules start clerkRules offeredMask withBit tried safeMove settled callRules performed called offeredBits calledAll session agree allAgree startImage taredImage cases instruction decode operate operatorPops operatorPushes perform ran guardHolds acted ownedBy sharedIn declared allowed pops pushes shifted deeper depth finalDepth endsAt spanOk head valueBytes image withMarks marksOf configurationOf headMatches locationOk lastPortOk valueOk configurationOk markOk marksOk lengthRule imageRules ready chosen used enabled outranked eligible actedBelow fired letter judged after good initialState initial sectionSize sectionStart takesPart below verdict next unless refusal within headOk countsOk layoutOk componentOk variableOk transitionOk portOk interactionOk rankOk verdictOk followerOk oracleOk transitionCode interactionCode propositionCode codeOk planRules planRefusal isRun committedMoves noCommit crosses someCrosses joined places sections counts offsets written scale sample ranked weighedAtStart still underflow signed residue wrap add subtract extend equalZ atLeast holds truth
-meaning = tt
+unfoldable pub inBook : Unit {0}
+unfolding replay lane bookImage bookOffered bookRefusal bookTried unlessWrong bookSettled turn told kept bookSession
+inBook = tt
+
+unfoldable pub inBytes : Unit {0}
+unfolding u16 u32 u64 leBytes allOf implies every some-below lowest table bit mask withBit
+inBytes = tt
+
+unfoldable pub inCalls : Unit {0}
+unfolding packed unlessRefused check startRules start clerkRules offeredMask tried settled callRules performed called offeredBits calledAll session
+inCalls = tt
+
+unfoldable pub inCases : Unit {0}
+unfolding agree allAgree startImage taredImage cases
+inCases = tt
+
+unfoldable pub inCode : Unit {0}
+unfolding instruction decode operate operatorPops operatorPushes perform ran guardHolds acted ownedBy sharedIn declared allowed pops pushes depthAfter deeper depth finalDepth endsAt spanOk
+inCode = tt
+
+unfoldable pub inImage : Unit {0}
+unfolding head valueBytes image withMarks marksOf configurationOf headMatches locationOk lastPortOk valueOk configurationOk markOk marksOk lengthRule imageRules
+inImage = tt
+
+unfoldable pub inMove : Unit {0}
+unfolding ready chosen chosenIn enabled outranked eligible actedBelow fired letter judged after oracleInRange oracleGood good mayCommit safeMove initialState initial
+inMove = tt
+
+unfoldable pub inPlan : Unit {0}
+unfolding sectionSize sectionStart takesPart below verdict next
+inPlan = tt
+
+unfoldable pub inRefusal : Unit {0}
+unfolding unless refusal
+inRefusal = tt
+
+unfoldable pub inRules : Unit {0}
+unfolding within headOk countsOk layoutOk componentOk variableOk transitionOk portOk interactionOk rankOk verdictOk followerOk oracleOk transitionCode interactionCode propositionCode codeOk planRules planRefusal
+inRules = tt
+
+unfoldable pub inRun : Unit {0}
+unfolding isRun committedMoves noCommit crosses someCrosses
+inRun = tt
+
+unfoldable pub inSample : Unit {0}
+unfolding joined places sections counts offsets written scale sample ranked weighedAtStart still underflow
+inSample = tt
+
+unfoldable pub inSigned : Unit {0}
+unfolding signed residue wrap add subtract extend equalZ atLeast holds truth
+inSigned = tt

@@ -6,9 +6,9 @@ use lib.Dec.{ltb}
 use Rattle.semantics.specs.Bytes.{some-below}
 use Rattle.semantics.specs.Plan.{Plan, interactions}
 use Rattle.semantics.specs.Refusal.{refusal}
-use Rattle.semantics.specs.Move.{enabled, after, good, initial}
+use Rattle.semantics.specs.Move.{enabled, after, good, safeMove, initial}
 use Rattle.semantics.specs.Image.{Image, image, configurationOf}
-use Rattle.semantics.specs.Calls.{Answer, accepted, refused, Outcome, outcome, unlessRefused, startRules, start, tried, safeMove, settled, Call, offered, try, settle, callRules, performed, called}
+use Rattle.semantics.specs.Calls.{Answer, accepted, refused, Outcome, outcome, unlessRefused, startRules, start, tried, settled, Call, offered, try, settle, callRules, performed, called}
 use Rattle.semantics.proofs.Basics.{eqb-false}
 
 -- An answer is a refusal: of kind 5.

@@ -1,7 +1,8 @@
 -- Laws of the first broken rule of a list, for lists whose numbers are not 0.
-use mathlib.Core.Path.{_≡_, refl, sym, ap, _∙_, subst}
+use mathlib.Core.Path.{_≡_, refl, sym, ap, _∙_}
 use Prim.Native.Nat.{ℕ, zero, suc}
-use mathlib.Core.Bool.{Bool, true, false, not, cond, _&&_, false≢true}
+use native.Mathlib.Nat.{suc-ne-zero}
+use mathlib.Core.Bool.{Bool, true, false, not, cond, _&&_}
 use mathlib.Core.List.{List, [], _∷_, _++_}
 use lib.Dec.{eqb}
 use Rattle.semantics.specs.Refusal.{Rule, unless, refusal}
@@ -44,12 +45,22 @@ unfolding refusal
 refusal-after [] qs h = refl
 refusal-after (r ∷ rs) qs h = unless-kept (r .kept) (r .number) (refusal (rs ++ qs)) (h .0) ∙ refusal-after rs qs (h .1)
 
+unless-both : (b : Bool) (m x y n : ℕ) → unless b m x ≡ n → (x ≡ n → y ≡ n) → unless b m y ≡ n
+unfolding unless
+unless-both true m x y n e f = f e
+unless-both false m x y n e f = e
+
 -- what the first rules refuse is refused whatever comes after them
-pub refusal-before : (rs qs : List Rule) → refusal (rs ++ qs) ≡ 0 → numbered rs ≡ true → refusal rs ≡ 0
-unfolding refusal numbered
-refusal-before [] qs e h = refl
-refusal-before (r ∷ rs) qs e h =
-    let n = and-both (not (eqb (r .number) 0)) (numbered rs) h in
-    bool-cases (r .kept)
-    (λ k. unless-kept (r .kept) (r .number) (refusal rs) k ∙ refusal-before rs qs (sym (unless-kept (r .kept) (r .number) (refusal (rs ++ qs)) k) ∙ e) (n .1))
-    (λ k. unless-broken (r .kept) (r .number) (refusal rs) k ∙ sym (unless-broken (r .kept) (r .number) (refusal (rs ++ qs)) k) ∙ e)
+pub refused-first : (rs qs : List Rule) (n : ℕ) → refusal rs ≡ n → (n ≡ 0 → ⊥) → refusal (rs ++ qs) ≡ n
+unfolding refusal
+refused-first [] qs n e h = absurd (h (sym e))
+refused-first (r ∷ rs) qs n e h =
+    unless-both (r .kept) (r .number) (refusal rs) (refusal (rs ++ qs)) n e (λ q. refused-first rs qs n q h)
+
+-- so where nothing is refused the first rules refuse nothing
+pub refusal-before : (rs qs : List Rule) → refusal (rs ++ qs) ≡ 0 → refusal rs ≡ 0
+refusal-before rs qs e = first (refusal rs) refl
+  where
+    first : (n : ℕ) → refusal rs ≡ n → n ≡ 0
+    first zero q = refl
+    first (suc n) q = sym (refused-first rs qs (suc n) q (suc-ne-zero n)) ∙ e

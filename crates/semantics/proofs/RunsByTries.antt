@@ -1,18 +1,17 @@
 -- Demand 3, fourth corollary: for every run of the ranked system a list of tries commits exactly it.
-use mathlib.Core.Path.{_≡_, refl, sym, ap, ap₂, _∙_, subst}
-use Prim.Native.Nat.{ℕ, zero, suc}
-use mathlib.Core.Bool.{Bool, true, false, not, cond}
+use mathlib.Core.Path.{_≡_, refl, sym, ap, _∙_}
+use Prim.Native.Nat.{ℕ}
+use mathlib.Core.Bool.{true, false, not}
 use mathlib.Core.List.{List, [], _∷_, _++_, map, append-assoc, append-nil}
 use lib.Dec.{ltb}
 use Rattle.semantics.specs.Plan.{Plan, interactions}
-use Rattle.semantics.specs.Refusal.{rule, refusal}
-use Rattle.semantics.specs.Rules.{planRefusal}
-use Rattle.semantics.specs.Move.{Configuration, enabled, outranked, eligible, after, good, initial}
+use Rattle.semantics.specs.Move.{eligible, after, good, initial}
 use Rattle.semantics.specs.Image.{Image, image}
-use Rattle.semantics.specs.Calls.{Answer, committed, Outcome, outcome, start, Call, try, calledAll}
-use Rattle.semantics.specs.Book.{Book, blank, lane, replay, bookImage, listed, Entry, entry, bookRefusal, bookTried, unlessWrong, turn, told, kept}
-use Rattle.semantics.specs.Run.{isRun, commits, committedMoves, leftBy}
-use Rattle.semantics.proofs.Basics.{Each, each, all-of}
+use Rattle.semantics.specs.Calls.{Answer, committed, Outcome, start, try, calledAll}
+use Rattle.semantics.specs.Book.{Book, blank, lane, replay, bookImage, Entry, entry, bookRefusal, bookTried, unlessWrong, turn, told, kept}
+use Rattle.semantics.specs.Run.{isRun, committedMoves, leftBy}
+use Rattle.semantics.proofs.Basics.{each}
+use Rattle.semantics.proofs.Ranking.{eligible-enabled, eligible-top, commit-eligible, commit-good}
 use Rattle.semantics.proofs.Masks.{mask-none}
 use Rattle.semantics.proofs.Refusing.{all-kept}
 use Rattle.semantics.proofs.BookStep.{lane-listed}
@@ -30,12 +29,15 @@ clear is = record { done = is; crossed = λ i. false }
 -- a try of a move that a run may take next lists it
 try-listed : (p : Plan) (is : List ℕ) (i : ℕ) (js : List ℕ) → isRun p (lane p (clear is)) (i ∷ js) ≡ true
     → turn p (clear is) (try i) ≡ entry (committed i) (clear (is ++ (i ∷ [])))
-unfolding isRun turn bookRefusal
+unfolding isRun turn
 try-listed p is i js r =
-    let q = each _ r in
-    rw (all-kept (rule 16 (ltb i (interactions p)) ∷ rule 17 (enabled p (lane p (clear is) .state) i) ∷ rule 18 (not (outranked p (lane p (clear is) .state) i)) ∷ rule 19 true ∷ []) (q .0, (q .1 .0, (q .1 .1 .0, (refl, tt)))))
-    (listing (q .1 .1 .1 .0))
+    let (l, (m, _)) = each _ r in rw (not-wrong l (commit-eligible p (lane p (clear is)) i m)) (listing (commit-good p (lane p (clear is)) i m))
   where
+    not-wrong : ltb i (interactions p) ≡ true → eligible p (lane p (clear is) .state) i ≡ true → bookRefusal p (clear is) i ≡ 0
+    not-wrong l q =
+        let s = lane p (clear is) .state in
+        unfold bookRefusal in all-kept _ (l, (eligible-enabled p s i q, (ap not (eligible-top p s i q), (refl, tt))))
+
     listing : good p (after p (lane p (clear is)) i) ≡ true → unlessWrong 0 (clear is) (bookTried p (clear is) i) ≡ entry (committed i) (clear (is ++ (i ∷ [])))
     listing g = unfold unlessWrong bookTried in (rw g refl)
 
@@ -50,7 +52,8 @@ unfolding told kept committedMoves isRun
 tries-listed p is [] r = record { answered = refl; moves = refl; left = ap clear (sym (append-nil is)) }
 tries-listed p is (i ∷ js) r =
     let t = try-listed p is i js r in
-    let ih = tries-listed p (is ++ (i ∷ [])) js (rw (← lane-listed p (clear is) i) at (each _ r .1 .1 .1 .1 .0)) in
+    let (_, (_, (rest, _))) = each _ r in
+    let ih = tries-listed p (is ++ (i ∷ [])) js (rw (← lane-listed p (clear is) i) at rest) in
     record {
       answered = rw t (ap (committed i ∷_) (ih .answered));
       moves = rw t (ap (i ∷_) (ih .moves));

@@ -1,33 +1,34 @@
 -- Every configuration that an accepted plan reaches passes 13: the starting one, and each one after an enabled interaction.
-use mathlib.Core.Path.{_≡_, refl, sym, ap, _∙_, subst}
-use Prim.Native.Nat.{ℕ, zero, suc, _+_, _-_, _%_, _^_, _≤_, _<_}
+use mathlib.Core.Path.{_≡_, refl, sym, ap, subst}
+use Prim.Native.Nat.{ℕ, zero, suc, _+_, _≤_, _<_}
 use native.Mathlib.Nat.{le-refl, le-trans, le-of-lt}
 use native.Mathlib.Omega.{arith}
-use mathlib.Core.Bool.{Bool, true, false, not, cond, _||_}
-use mathlib.Core.List.{List, [], _∷_}
+use mathlib.Core.Bool.{true, cond}
+use mathlib.Core.List.{[], _∷_}
 use lib.ListN.{length, getD, List·getD-eq-default}
-use lib.Dec.{leb, ltb, eqb}
-use lib.IntN.{ℤ, pos, negsuc}
-use Rattle.semantics.specs.Bytes.{u32, allOf, implies, every, lowest, table, mask}
+use lib.Dec.{ltb, eqb}
+use lib.IntN.{ℤ, pos}
+use Rattle.semantics.specs.Bytes.{u32, allOf, table}
 use Rattle.semantics.specs.Signed.{wrap, equalZ}
-use Rattle.semantics.specs.Plan.{Plan, components, variables, transitions, interactions, propositions, oracleStates, firstOracle, letters, locations, startLocation, startValue, ports, componentOf, destination, portIn, takesPart, actionOf, transferOf, variableAt, propositionOf, next}
-use Rattle.semantics.specs.Code.{State, guardHolds, acted, ownedBy, sharedIn}
-use Rattle.semantics.specs.Rules.{within, componentOk, transitionOk, portOk, interactionOk, followerOk, oracleOk}
-use Rattle.semantics.specs.Move.{Configuration, ready, chosen, used, enabled, actedBelow, fired, letter, judged, after, good, initialState, initial}
+use Rattle.semantics.specs.Plan.{Plan, maxComponents, maxVariables, noPort, components, variables, interactions, propositions, firstOracle, letters, locations, startLocation, startValue, ports}
+use Rattle.semantics.specs.Plan.{componentOf, destination, portIn, takesPart, actionOf, transferOf, variableAt, propositionOf, next, oracleStates}
+use Rattle.semantics.specs.Code.{State, guardHolds, ownedBy, sharedIn}
+use Rattle.semantics.specs.Rules.{componentOk, transitionOk, portOk, interactionOk, followerOk, oracleOk}
+use Rattle.semantics.specs.Move.{Configuration, chosenIn, enabled, actedBelow, fired, letter, judged, after, oracleInRange, good, initialState, initial}
 use Rattle.semantics.specs.Image.{locationOk, lastPortOk, valueOk, configurationOk}
-use Rattle.semantics.proofs.Basics.{bool-cases, absurd-bool, not-yes, or-cases, or-left, or-right, implies-at, Each, each, all-of, ltb-true, ltb-false, lt-ltb, le-ltb, eqb-true, eqb-same, every-at, every-all, lowest-is, length-table, getD-table}
+use Rattle.semantics.proofs.Basics.{bool-cases, absurd-bool, not-yes, or-cases, or-left, or-right, each, all-of, ltb-true, ltb-false, lt-ltb, le-ltb, every-at, every-all, length-table, getD-table}
 use Rattle.semantics.proofs.Masks.{mask-lt}
-use Rattle.semantics.proofs.AcceptedPlan.{Accepted, Counts, counts-of, action-ok, transfer-ok}
-use Rattle.semantics.proofs.Evaluator.{low-word, signed-word, Words, Valued, acted-valued}
+use Rattle.semantics.proofs.AcceptedPlan.{Accepted, counts-of, action-ok, transfer-ok}
+use Rattle.semantics.proofs.Evaluator.{low-word, signed-word, Valued, acted-valued}
 use Rattle.semantics.proofs.Images.{Shaped}
 use Rattle.semantics.proofs.OneMove.{Uses, uses}
 
 pub record Sound (p : Plan) (c : Configuration) : Type 0 where
-  pub oracle< : c .oracle < oracleStates p
-  pub locations-16 : length (c .state .locations) ≡ 16
-  pub ports-16 : length (c .state .lastPorts) ≡ 16
-  pub location : (k : ℕ) → k < 16 → locationOk p (c .state) k ≡ true
-  pub port : (k : ℕ) → k < 16 → lastPortOk p (c .state) k ≡ true
+  pub in-range : oracleInRange p (c .oracle) ≡ true
+  pub locations-16 : length (c .state .locations) ≡ maxComponents
+  pub ports-16 : length (c .state .lastPorts) ≡ maxComponents
+  pub location : (k : ℕ) → k < maxComponents → locationOk p (c .state) k ≡ true
+  pub port : (k : ℕ) → k < maxComponents → lastPortOk p (c .state) k ≡ true
   pub valued : Valued p (c .state .values)
 
 pub shaped : (p : Plan) (c : Configuration) → Sound p c → Shaped (c .state)
@@ -37,7 +38,7 @@ zero-value : (z : ℤ) → z ≡ pos 0 → equalZ z (pos 0) ≡ true
 unfolding equalZ
 zero-value z e = ap (λ (y : ℤ). equalZ y (pos 0)) e
 
-unused-zero : (p : Plan) (c : Configuration) → Sound p c → (v : ℕ) → v < 64 → valueOk p (c .state) v ≡ true
+unused-zero : (p : Plan) (c : Configuration) → Sound p c → (v : ℕ) → v < maxVariables → valueOk p (c .state) v ≡ true
 unfolding valueOk
 unused-zero p c h v l =
     bool-cases (ltb v (variables p)) (or-left (ltb v (variables p)) (equalZ (getD (c .state .values) v (pos 0)) (pos 0)))
@@ -48,7 +49,7 @@ unused-zero p c h v l =
 pub configuration-ok : (p : Plan) (c : Configuration) → Sound p c → good p c ≡ true → configurationOk p c ≡ true
 unfolding configurationOk
 configuration-ok p c h g =
-    all-of _ (lt-ltb _ _ (h .oracle<), (g, (every-all 16 _ (h .location), (every-all 16 _ (h .port), (every-all 64 _ (unused-zero p c h), tt)))))
+    all-of _ (h .in-range, (g, (every-all maxComponents _ (h .location), (every-all maxComponents _ (h .port), (every-all maxVariables _ (unused-zero p c h), tt)))))
 
 -- ---- the oracle
 
@@ -56,14 +57,20 @@ pub letter-lt : (p : Plan) (s : State) → letter p s < letters p
 unfolding letter
 letter-lt p s = mask-lt (propositions p) (λ k. guardHolds p s (propositionOf p k))
 
-pub next-lt : (p : Plan) → Accepted p → (q a : ℕ) → q < oracleStates p → a < letters p → next p q a < oracleStates p
-unfolding oracleOk followerOk
-next-lt p h q a l m =
-    ltb-true _ _ (each _ (every-at (letters p) (λ b. followerOk p q (next p q b)) (each _ (h .oracle q l) .1 .0) a m) .0)
+pub range-lt : (p : Plan) (q : ℕ) → oracleInRange p q ≡ true → q < oracleStates p
+unfolding oracleInRange
+range-lt p q e = ltb-true q (oracleStates p) e
 
-judged-lt : (p : Plan) → Accepted p → (q : ℕ) (s : State) → q < oracleStates p → judged p q s .oracle < oracleStates p
+pub next-in-range : (p : Plan) → Accepted p → (q a : ℕ) → oracleInRange p q ≡ true → a < letters p → oracleInRange p (next p q a) ≡ true
+unfolding oracleInRange oracleOk followerOk
+next-in-range p h q a l m =
+    let (_, (followers, _)) = each _ (h .oracle q (ltb-true _ _ l)) in
+    let (low, _) = each _ (every-at (letters p) (λ b. followerOk p q (next p q b)) followers a m) in
+    low
+
+judged-in-range : (p : Plan) → Accepted p → (q : ℕ) (s : State) → oracleInRange p q ≡ true → oracleInRange p (judged p q s .oracle) ≡ true
 unfolding judged
-judged-lt p h q s l = next-lt p h q (letter p s) l (letter-lt p s)
+judged-in-range p h q s l = next-in-range p h q (letter p s) l (letter-lt p s)
 
 -- ---- the starting configuration
 
@@ -75,34 +82,38 @@ initial-valued : (p : Plan) → Valued p (initialState p .values)
 unfolding initialState
 initial-valued p =
     let f : ℕ → ℤ = λ v. cond (ltb v (variables p)) (startValue p v) (pos 0) in
-    record { long = length-table 64 f; words = record { word-at = λ v. in-or-out v (λ z. wrap z ≡ z) (initial-value p v) (low-word 0 (omega arith)) }; unused = λ v h. in-or-out v (λ z. z ≡ pos 0) (rw (le-ltb v (variables p) h)) refl }
+    record {
+      long = length-table maxVariables f;
+      words = record { word-at = λ v. in-or-out v (λ z. wrap z ≡ z) (initial-value p v) (low-word 0 (omega arith)) };
+      unused = λ v h. in-or-out v (λ z. z ≡ pos 0) (rw (le-ltb v (variables p) h)) refl;
+    }
   where
     in-or-out : (v : ℕ) (P : ℤ → Type 0) → P (cond (ltb v (variables p)) (startValue p v) (pos 0)) → P (pos 0)
-        → P (getD (table 64 (λ u. cond (ltb u (variables p)) (startValue p u) (pos 0))) v (pos 0))
+        → P (getD (table maxVariables (λ u. cond (ltb u (variables p)) (startValue p u) (pos 0))) v (pos 0))
     in-or-out v P a b =
         let f : ℕ → ℤ = λ u. cond (ltb u (variables p)) (startValue p u) (pos 0) in
-        bool-cases (ltb v 64) (λ e. subst P (sym (getD-table 64 f (pos 0) v (ltb-true v 64 e))) a)
-        (λ e. subst P (sym (List·getD-eq-default (table 64 f) (pos 0) (subst (λ (n : ℕ). n ≤ v) (sym (length-table 64 f)) (ltb-false v 64 e)))) b)
+        bool-cases (ltb v maxVariables) (λ e. subst P (sym (getD-table maxVariables f (pos 0) v (ltb-true v maxVariables e))) a)
+        (λ e. subst P (sym (List·getD-eq-default (table maxVariables f) (pos 0) (subst (λ (n : ℕ). n ≤ v) (sym (length-table maxVariables f)) (ltb-false v maxVariables e)))) b)
 
-initial-location : (p : Plan) → Accepted p → (k : ℕ) → k < 16 → locationOk p (initialState p) k ≡ true
+initial-location : (p : Plan) → Accepted p → (k : ℕ) → k < maxComponents → locationOk p (initialState p) k ≡ true
 unfolding locationOk initialState componentOk
 initial-location p h k l =
     let f : ℕ → ℕ = λ c. cond (ltb c (components p)) (startLocation p c) 0 in
-    rw (getD-table 16 f 0 k l)
-    (bool-cases (ltb k (components p)) (λ e. rw e (each _ (h .component k (ltb-true k (components p) e)) .1 .0)) (λ e. rw e refl))
+    rw (getD-table maxComponents f 0 k l)
+    (bool-cases (ltb k (components p)) (λ e. let (_, (low, _)) = each _ (h .component k (ltb-true k (components p) e)) in rw e low) (λ e. rw e refl))
 
-initial-port : (p : Plan) (k : ℕ) → k < 16 → lastPortOk p (initialState p) k ≡ true
+initial-port : (p : Plan) (k : ℕ) → k < maxComponents → lastPortOk p (initialState p) k ≡ true
 unfolding lastPortOk initialState
 initial-port p k l =
-    rw (getD-table {A = ℕ} 16 (λ c. 255) 0 k l) (bool-cases (ltb k (components p)) (λ e. rw e refl) (λ e. rw e refl))
+    rw (getD-table {A = ℕ} maxComponents (λ c. noPort) 0 k l) (bool-cases (ltb k (components p)) (λ e. rw e refl) (λ e. rw e refl))
 
 pub sound-initial : (p : Plan) → Accepted p → Sound p (initial p)
 unfolding initial judged initialState
 sound-initial p h =
     record {
-      oracle< = judged-lt p h (firstOracle p) (initialState p) (counts-of p (h .counts) .first<);
-      locations-16 = length-table 16 (λ c. cond (ltb c (components p)) (startLocation p c) 0);
-      ports-16 = length-table {A = ℕ} 16 (λ c. 255);
+      in-range = judged-in-range p h (firstOracle p) (initialState p) (counts-of p (h .counts) .first);
+      locations-16 = length-table maxComponents (λ c. cond (ltb c (components p)) (startLocation p c) 0);
+      ports-16 = length-table {A = ℕ} maxComponents (λ c. noPort);
       location = initial-location p h;
       port = initial-port p;
       valued = initial-valued p;
@@ -115,51 +126,52 @@ pub record Part (p : Plan) (i c : ℕ) : Type 0 where
   pub component< : c < components p
   pub port< : portIn p i c < ports p c
 
-pub part : (p : Plan) → Accepted p → (i c : ℕ) → i < interactions p → c < 16 → takesPart p i c ≡ true → Part p i c
+pub part : (p : Plan) → Accepted p → (i c : ℕ) → i < interactions p → c < maxComponents → takesPart p i c ≡ true → Part p i c
 unfolding interactionOk portOk takesPart
 part p h i c l m t =
-    or-cases (eqb (portIn p i c) 255) (allOf (ltb c (components p) ∷ ltb (portIn p i c) (ports p c) ∷ []))
-    (every-at 16 (portOk p i) (each _ (h .interaction i l) .0) c m)
-    (λ e. absurd-bool e (not-yes (eqb (portIn p i c) 255) t))
-    (λ e. let b = each _ e in record { component< = ltb-true _ _ (b .0); port< = ltb-true _ _ (b .1 .0) })
+    let (in-range, _) = each _ (h .interaction i l) in
+    or-cases (eqb (portIn p i c) noPort) (allOf (ltb c (components p) ∷ ltb (portIn p i c) (ports p c) ∷ []))
+    (every-at maxComponents (portOk p i) in-range c m)
+    (λ e. absurd-bool e (not-yes (eqb (portIn p i c) noPort) t))
+    (λ e. let (k, (n, _)) = each _ e in record { component< = ltb-true _ _ k; port< = ltb-true _ _ n })
 
 module _ (p : Plan) (h : Accepted p) (c : Configuration) (g : Sound p c) (i : ℕ) (l : i < interactions p) (e : enabled p (c .state) i ≡ true) where
-  use-of : (k : ℕ) → k < 16 → takesPart p i k ≡ true → Part p i k × Uses p (c .state) i k
+  use-of : (k : ℕ) → k < maxComponents → takesPart p i k ≡ true → Part p i k × Uses p (c .state) i k
   use-of k m t = let q = part p h i k l m t in (q, uses p (c .state) i k e (q .component<) t)
 
-  fired-location : (k : ℕ) → k < 16 → locationOk p (fired p (c .state) i) k ≡ true
+  fired-location : (k : ℕ) → k < maxComponents → locationOk p (fired p (c .state) i) k ≡ true
   unfolding locationOk fired transitionOk
   fired-location k m =
-      let f : ℕ → ℕ = λ n. cond (takesPart p i n) (destination p (used p (c .state) i n)) (getD (c .state .locations) n 0) in
-      rw (getD-table 16 f 0 k m)
+      let f : ℕ → ℕ = λ n. cond (takesPart p i n) (destination p (chosenIn p (c .state) i n)) (getD (c .state .locations) n 0) in
+      rw (getD-table maxComponents f 0 k m)
       (bool-cases (takesPart p i k)
       (λ t.
-      let u = use-of k m t in
-      let r = each _ (h .transition (used p (c .state) i k) (u .1 .known)) in
-      rw (t, lt-ltb k (components p) (u .0 .component<)) (rw (u .1 .own) at (r .1 .1 .1 .0)))
+      let (q, u) = use-of k m t in
+      let (_, (_, (_, (low, _)))) = each _ (h .transition (chosenIn p (c .state) i k) (u .known)) in
+      rw (t, lt-ltb k (components p) (q .component<)) (rw (u .own) at low))
       (λ t. rw t (g .location k m)))
 
-  fired-port : (k : ℕ) → k < 16 → lastPortOk p (fired p (c .state) i) k ≡ true
+  fired-port : (k : ℕ) → k < maxComponents → lastPortOk p (fired p (c .state) i) k ≡ true
   unfolding lastPortOk fired
   fired-port k m =
       let f : ℕ → ℕ = λ n. cond (takesPart p i n) (portIn p i n) (getD (c .state .lastPorts) n 0) in
-      rw (getD-table 16 f 0 k m)
+      rw (getD-table maxComponents f 0 k m)
       (bool-cases (takesPart p i k)
       (λ t.
-      let u = use-of k m t in
-      rw (t, lt-ltb k (components p) (u .0 .component<))
-      (or-right (eqb (portIn p i k) 255) (ltb (portIn p i k) (ports p k)) (lt-ltb (portIn p i k) (ports p k) (u .0 .port<))))
+      let (q, _) = use-of k m t in
+      rw (t, lt-ltb k (components p) (q .component<))
+      (or-right (eqb (portIn p i k) noPort) (ltb (portIn p i k) (ports p k)) (lt-ltb (portIn p i k) (ports p k) (q .port<))))
       (λ t. rw t (g .port k m)))
 
   owned-low : (k v : ℕ) → ownedBy p k v ≡ true → v < variables p
   unfolding ownedBy
-  owned-low k v o = ltb-true _ _ (each _ o .0)
+  owned-low k v o = let (low, _) = each _ o in ltb-true _ _ low
 
   shared-low : (v : ℕ) → sharedIn p i v ≡ true → v < variables p
   unfolding sharedIn
-  shared-low v o = ltb-true _ _ (each _ o .0)
+  shared-low v o = let (low, _) = each _ o in ltb-true _ _ low
 
-  acted-below : (n : ℕ) → n ≤ 16 → Valued p (actedBelow p (c .state) i n .values)
+  acted-below : (n : ℕ) → n ≤ maxComponents → Valued p (actedBelow p (c .state) i n .values)
   unfolding actedBelow
   acted-below zero m = acted-valued p (sharedIn p i) (transferOf p i) (c .state) (transfer-ok p h i l) shared-low (g .valued)
   acted-below (suc n) m =
@@ -167,19 +179,19 @@ module _ (p : Plan) (h : Accepted p) (c : Configuration) (g : Sound p c) (i : �
       let before : Valued p (r .values) = acted-below n (le-trans (le-of-lt (le-refl (suc n))) m) in
       bool-cases (takesPart p i n)
       (λ t.
-      let u = use-of n m t in
+      let (_, u) = use-of n m t in
       rw t
-      (acted-valued p (ownedBy p (componentOf p (used p (c .state) i n))) (actionOf p (used p (c .state) i n)) r
-      (action-ok p h (used p (c .state) i n) (u .1 .known)) (owned-low (componentOf p (used p (c .state) i n))) before))
+      (acted-valued p (ownedBy p (componentOf p (chosenIn p (c .state) i n))) (actionOf p (chosenIn p (c .state) i n)) r
+      (action-ok p h (chosenIn p (c .state) i n) (u .known)) (owned-low (componentOf p (chosenIn p (c .state) i n))) before))
       (λ t. rw t before)
 
   pub sound-after : Sound p (after p c i)
   unfolding after judged fired
   sound-after =
       record {
-        oracle< = judged-lt p h (c .oracle) (fired p (c .state) i) (g .oracle<);
-        locations-16 = length-table 16 (λ k. cond (takesPart p i k) (destination p (used p (c .state) i k)) (getD (c .state .locations) k 0));
-        ports-16 = length-table 16 (λ k. cond (takesPart p i k) (portIn p i k) (getD (c .state .lastPorts) k 0));
+        in-range = judged-in-range p h (c .oracle) (fired p (c .state) i) (g .in-range);
+        locations-16 = length-table maxComponents (λ k. cond (takesPart p i k) (destination p (chosenIn p (c .state) i k)) (getD (c .state .locations) k 0));
+        ports-16 = length-table maxComponents (λ k. cond (takesPart p i k) (portIn p i k) (getD (c .state .lastPorts) k 0));
         location = fired-location;
         port = fired-port;
         valued = acted-below (components p) (counts-of p (h .counts) .components≤);

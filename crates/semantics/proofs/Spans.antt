@@ -14,7 +14,7 @@ use lib.Dec.{leb, eqb}
 use lib.IntN.{ℤ, pos}
 use Rattle.semantics.specs.Bytes.{allOf}
 use Rattle.semantics.specs.Plan.{Plan, Span, word}
-use Rattle.semantics.specs.Code.{State, Instruction, push, extendTop, load, store, located, lastPort, operator, unknown, decode, Machine, operatorPops, operatorPushes, perform, ran, acted, Role, allowed, pops, pushes, shifted, deeper, depth, finalDepth, endsAt, spanOk}
+use Rattle.semantics.specs.Code.{State, Instruction, push, extendTop, load, store, located, lastPort, operator, unknown, decode, Machine, operatorPops, operatorPushes, perform, ran, acted, Role, allowed, pops, pushes, depthAfter, deeper, depth, finalDepth, endsAt, spanOk}
 use Rattle.semantics.proofs.Basics.{bool-cases, absurd-bool, each, leb-true, ltb-true, eqb-true, eqb-false, ne-eqb}
 
 -- ---- small laws
@@ -71,6 +71,14 @@ cond-no : (t b c : Bool) → t ≡ false → cond t b c ≡ true → c ≡ true
 cond-no true b c e h = absurd (true≢false e)
 cond-no false b c e h = h
 
+-- "A span has .. a depth of at most 8", after every word
+depth-after-low : (ok : Bool) (need give d e : ℕ) → depthAfter ok need give d ≡ some e → e ≤ 8
+unfolding depthAfter
+depth-after-low ok need give d e h =
+    let (t, same) = cond-some (allOf (ok ∷ leb need d ∷ leb (d - need + give) 8 ∷ [])) (d - need + give) e h in
+    let (_, (_, (low, _))) = each _ t in
+    subst (λ (x : ℕ). x ≤ 8) same (leb-true _ _ low)
+
 -- ---- word by word
 
 module _ (p : Plan) (r : Role) (names : ℕ → Bool) where
@@ -87,18 +95,18 @@ module _ (p : Plan) (r : Role) (names : ℕ → Bool) where
     pub counted : o ≡ some was
     pub step : Step i was e
 
-  shifted-step : (i : Instruction) (d e : ℕ) → shifted (allowed p r names i) (pops i) (pushes i) d ≡ some e → Step i d e
-  unfolding shifted
-  shifted-step i d e h =
-      let c = cond-some (allOf (allowed p r names i ∷ leb (pops i) d ∷ leb (d - pops i + pushes i) 8 ∷ [])) (d - pops i + pushes i) e h in
-      let t = each _ (c .0) in
-      record { fits = t .0; enough = leb-true _ _ (t .1 .0); after = c .1; low = subst (λ (x : ℕ). x ≤ 8) (c .1) (leb-true _ _ (t .1 .1 .0)) }
+  depth-after-step : (i : Instruction) (d e : ℕ) → depthAfter (allowed p r names i) (pops i) (pushes i) d ≡ some e → Step i d e
+  unfolding depthAfter
+  depth-after-step i d e h =
+      let (t, same) = cond-some (allOf (allowed p r names i ∷ leb (pops i) d ∷ leb (d - pops i + pushes i) 8 ∷ [])) (d - pops i + pushes i) e h in
+      let (fits, (enough, _)) = each _ t in
+      record { fits = fits; enough = leb-true _ _ enough; after = same; low = depth-after-low (allowed p r names i) (pops i) (pushes i) d e h }
 
   -- where the count after a word is a number, the word keeps the rules
   pub stepped : (i : Instruction) (o : Option ℕ) (e : ℕ) → deeper p r names i o ≡ some e → Stepped i o e
   unfolding deeper
   stepped i none e h = absurd (Option·none-ne-some e h)
-  stepped i (some d) e h = record { was = d; counted = refl; step = shifted-step i d e h }
+  stepped i (some d) e h = record { was = d; counted = refl; step = depth-after-step i d e h }
 
   -- the word after the first n: its step, from the depth after n to the depth after suc n
   pub word-step : (k n e : ℕ) → depth p r names k (suc n) ≡ some e → Stepped (decode (word p (k + n))) (depth p r names k n) e
@@ -153,8 +161,9 @@ module _ (p : Plan) (r : Role) (names : ℕ → Bool) where
   pub span-end : (g : Span) → spanOk p r names g ≡ true → 0 < g .size → depth p r names (g .start) (g .size) ≡ some (finalDepth r)
   unfolding spanOk
   span-end g h l =
+      let (_, (_, (end, _))) = each _ h in
       ends-some (finalDepth r) (depth p r names (g .start) (g .size))
-      (cond-no (eqb (g .size) 0) (not (r .looks)) (endsAt (finalDepth r) (depth p r names (g .start) (g .size))) (not-empty (g .size) l) (each _ h .1 .1 .0))
+      (cond-no (eqb (g .size) 0) (not (r .looks)) (endsAt (finalDepth r) (depth p r names (g .start) (g .size))) (not-empty (g .size) l) end)
 
   no-words : (k n : ℕ) → n ≡ 0 → depth p r names k n ≡ some 0
   unfolding depth
@@ -171,6 +180,10 @@ module _ (p : Plan) (r : Role) (names : ℕ → Bool) where
       → (e : ℕ) × (depth p r names (g .start) (suc n) ≡ some e)
   span-step g h n l = let d = span-depth g h in depth-before (g .start) (g .size) (d .0) (d .1) (suc n) l
 
+  -- so each of its words is allowed
+  pub span-word : (g : Span) → spanOk p r names g ≡ true → (n : ℕ) → n < g .size → allowed p r names (decode (word p (g .start + n))) ≡ true
+  span-word g h n l = let (e, counted) = span-step g h n l in word-step (g .start) n e counted .step .fits
+
   -- ---- what a span may change
 
   -- a word that keeps the rules changes no variable but those in names
@@ -181,8 +194,8 @@ module _ (p : Plan) (r : Role) (names : ℕ → Bool) where
   perform-frame (extendTop n) h s m v f = refl
   perform-frame (load n) h s m v f = refl
   perform-frame (store n) h s m v f =
-      getD-set-other (m .values) n v (getD (m .stack) 0 (pos 0)) (pos 0)
-      (λ q. absurd-bool (subst (λ (x : ℕ). names x ≡ true) (sym q) (each _ h .1 .0)) f)
+      let (_, (named, _)) = each _ h in
+      getD-set-other (m .values) n v (getD (m .stack) 0 (pos 0)) (pos 0) (λ q. absurd-bool (subst (λ (x : ℕ). names x ≡ true) (sym q) named) f)
   perform-frame (located c l) h s m v f = refl
   perform-frame (lastPort c q) h s m v f = refl
   perform-frame (operator n) h s m v f = refl

@@ -4,10 +4,10 @@ use Prim.Native.Nat.{ℕ, zero, suc}
 use mathlib.Core.Bool.{Bool, false, not, cond, _||_}
 use mathlib.Core.List.{List, [], _∷_, _++_}
 use lib.Dec.{ltb, eqb}
-use Rattle.semantics.specs.Bytes.{allOf, some-below, lowest, mask}
+use Rattle.semantics.specs.Bytes.{allOf, some-below, mask}
 use Rattle.semantics.specs.Plan.{Plan, interactions}
 use Rattle.semantics.specs.Refusal.{rule, refusal}
-use Rattle.semantics.specs.Move.{Configuration, enabled, outranked, eligible, after, good, initial}
+use Rattle.semantics.specs.Move.{Configuration, enabled, outranked, eligible, after, good, safeMove, initial}
 use Rattle.semantics.specs.Image.{Image, image}
 use Rattle.semantics.specs.Calls.{Answer, accepted, offers, committed, cancelled, stalled, penned, refused, Outcome, outcome, Call, offered, try, settle}
 
@@ -67,15 +67,11 @@ unfoldable pub unlessWrong : ℕ → Book → Entry → Entry
 unlessWrong zero k e = e
 unlessWrong (suc n) k e = entry (refused (suc n)) k
 
--- The lowest-numbered enabled, unoutranked move that ends good on the book's lane, or I where there is none.
-unfoldable pub bookSafe : Plan → Book → ℕ
-bookSafe p k = lowest (interactions p) (λ i. allOf (eligible p (lane p k .state) i ∷ good p (after p (lane p k) i) ∷ []))
-
 -- "A settling that commits lists its move and empties the set. Stalled changes nothing. Penned crosses off every enabled,
 -- unoutranked move."
 unfoldable pub bookSettled : Plan → Book → Entry
 bookSettled p k =
-    let i = bookSafe p k in
+    let i = safeMove p (lane p k) in
     cond (ltb i (interactions p)) (entry (committed i) (listed k i))
     (cond (some-below (interactions p) (enabled p (lane p k .state))) (entry penned (crossedOff k (eligible p (lane p k .state)))) (entry stalled k))
 

@@ -63,3 +63,7 @@ bit m (suc k) = bit (m / 2) k
 unfoldable pub mask : ℕ → (ℕ → Bool) → ℕ
 mask zero f = zero
 mask (suc n) f = cond (f zero) 1 0 + 2 * mask n (λ k. f (suc k))
+
+-- The 64-bit mask m with bit i set.
+unfoldable pub withBit : ℕ → ℕ → ℕ
+withBit m i = mask 64 (λ j. bit m j || eqb j i)

@@ -1,13 +1,13 @@
 -- The answers and the calls, from the plan's bytes and the image's to the answer and the image's bytes afterwards. Each call reads its image.
 use Prim.Native.Nat.{ℕ, zero, suc, _+_, _*_}
-use mathlib.Core.Bool.{Bool, not, cond, _&&_, _||_}
+use mathlib.Core.Bool.{Bool, not, cond}
 use mathlib.Core.List.{List, [], _∷_, _++_}
-use lib.Dec.{ltb, eqb}
-use Rattle.semantics.specs.Bytes.{allOf, some-below, lowest, bit, mask}
-use Rattle.semantics.specs.Plan.{Plan, maxInteractions, interactions}
+use lib.Dec.{ltb}
+use Rattle.semantics.specs.Bytes.{allOf, some-below, bit, mask, withBit}
+use Rattle.semantics.specs.Plan.{Plan, interactions}
 use Rattle.semantics.specs.Refusal.{Rule, rule, refusal}
 use Rattle.semantics.specs.Rules.{planRules}
-use Rattle.semantics.specs.Move.{Configuration, enabled, outranked, eligible, after, good, initial}
+use Rattle.semantics.specs.Move.{enabled, outranked, eligible, after, good, safeMove, initial}
 use Rattle.semantics.specs.Image.{Image, image, withMarks, marksOf, configurationOf, lengthRule, imageRules}
 
 -- "Other answers are a kind .. and a number"; "An accepted offered call answers kind 0, number 0 and the bits; a refused one kind 5,
@@ -78,21 +78,13 @@ clerkRules p b i =
 unfoldable pub offeredMask : Plan → Image → ℕ
 offeredMask p b = mask (interactions p) (λ i. allOf (eligible p (configurationOf b .state) i ∷ not (bit (marksOf b) i) ∷ []))
 
--- The marks m with bit i set.
-unfoldable pub withBit : ℕ → ℕ → ℕ
-withBit m i = mask maxInteractions (λ j. bit m j || eqb j i)
-
 -- "A good move is committed: new state, new oracle state, marks cleared. A bad one is cancelled: its mark is set and no other byte differs."
 unfoldable pub tried : Plan → Image → ℕ → Outcome
 tried p b i =
     cond (good p (after p (configurationOf b) i)) (outcome (committed i) (image p (after p (configurationOf b) i) 0))
     (outcome (cancelled i) (withMarks b (withBit (marksOf b) i)))
 
--- "Settling commits the lowest-numbered enabled, unoutranked move that ends in a good state": that move, or I where there is none.
-unfoldable pub safeMove : Plan → Configuration → ℕ
-safeMove p c = lowest (interactions p) (λ i. allOf (eligible p (c .state) i ∷ good p (after p c i) ∷ []))
-
--- "With none, it answers stalled when nothing is enabled (no byte changes) and penned otherwise, with every enabled, unoutranked
+-- Settling commits the safe move. "With none, it answers stalled when nothing is enabled (no byte changes) and penned otherwise, with every enabled, unoutranked
 -- interaction marked."
 unfoldable pub settled : Plan → Image → Outcome
 settled p b =

@@ -8,7 +8,7 @@ use lib.IntN.{ℤ, pos, negsuc}
 use Rattle.semantics.specs.Bytes.{byte, u32, leBytes}
 use Rattle.semantics.specs.Signed.{signed, equalZ, add}
 use Rattle.semantics.specs.Plan.{Plan}
-use Rattle.semantics.specs.Image.{Image, marksOf}
+use Rattle.semantics.specs.Image.{Image, imageLength, marksOf}
 use Rattle.semantics.specs.Calls.{Outcome, check, start, called, Call, offered, try, settle}
 use Rattle.semantics.specs.Sample.{sample, ranked, weighedAtStart, still, underflow}
 
@@ -37,9 +37,9 @@ answered o = o .answer .kind ∷ o .answer .number ∷ []
 abbrev pub case : List ℕ → List ℕ → Case
 case given said = record { gives = numbers given; says = numbers said }
 
--- A memory of 312 bytes that hold anything.
+-- The memory of an image, which holds anything.
 abbrev pub memory : Image
-memory = replicate 312 170
+memory = replicate imageLength 170
 
 abbrev pub begun : Plan → Outcome
 begun p = start p memory

@@ -16,6 +16,14 @@ pub record State : Type 0 where
   pub lastPorts : List ℕ
   pub values : List ℤ
 
+-- The state of three lists.
+abbrev pub site : List ℕ → List ℕ → List ℤ → State
+site l q v = record { locations = l; lastPorts = q; values = v }
+
+-- A valuation alone, for what looks at no location and no port.
+abbrev pub valued : List ℤ → State
+valued v = site [] [] v
+
 pub data Instruction : Type 0 where
   push : ℕ → Instruction
   extendTop : ℕ → Instruction
@@ -144,12 +152,12 @@ pushes unknown = 0
 
 -- The depth after a word that is allowed, needs so many values and gives so many; none where a rule is broken.
 -- "A span has .. a depth of at most 8", after every word; "a pop or kind 1 on an empty stack" breaks the rules.
-unfoldable pub shifted : Bool → ℕ → ℕ → ℕ → Option ℕ
-shifted ok need give d = cond (allOf (ok ∷ leb need d ∷ leb (d - need + give) 8 ∷ [])) (some (d - need + give)) none
+unfoldable pub depthAfter : Bool → ℕ → ℕ → ℕ → Option ℕ
+depthAfter ok need give d = cond (allOf (ok ∷ leb need d ∷ leb (d - need + give) 8 ∷ [])) (some (d - need + give)) none
 
 unfoldable pub deeper : Plan → Role → (ℕ → Bool) → Instruction → Option ℕ → Option ℕ
 deeper p r names i none = none
-deeper p r names i (some d) = shifted (allowed p r names i) (pops i) (pushes i) d
+deeper p r names i (some d) = depthAfter (allowed p r names i) (pops i) (pushes i) d
 
 -- The depth after the first n words from word k on.
 unfoldable pub depth : Plan → Role → (ℕ → Bool) → ℕ → ℕ → Option ℕ

@@ -7,18 +7,39 @@ use lib.Dec.{ltb, eqb}
 use lib.IntN.{ℤ, pos}
 use Rattle.semantics.specs.Bytes.{byte, u32, u64, leBytes, allOf, implies, every, table, bit}
 use Rattle.semantics.specs.Signed.{signed, residue, equalZ}
-use Rattle.semantics.specs.Plan.{Plan, maxComponents, maxVariables, maxInteractions, noPort, components, variables, interactions, oracleStates, locations, ports}
+use Rattle.semantics.specs.Plan.{Plan, maxComponents, maxVariables, maxInteractions, noPort, numberByte, components, variables, interactions, locations, ports}
 use Rattle.semantics.specs.Code.{State}
 use Rattle.semantics.specs.Refusal.{Rule, rule}
-use Rattle.semantics.specs.Move.{Configuration, eligible, after, good}
+use Rattle.semantics.specs.Move.{Configuration, eligible, oracleInRange, good, mayCommit}
 
 abbrev pub Image : Type 0
 Image = List ℕ
 
+-- The length of an image.
+abbrev pub imageLength : ℕ
+imageLength = 312
+
+-- Where an image keeps what: the oracle state, the marks, the locations, the last ports, the values.
+abbrev pub oraclePlace : ℕ
+oraclePlace = 8
+
+abbrev pub marksPlace : ℕ
+marksPlace = 16
+
+abbrev pub locationsPlace : ℕ
+locationsPlace = 24
+
+abbrev pub lastPortsPlace : ℕ
+lastPortsPlace = 40
+
+abbrev pub valuePlace : ℕ → ℕ
+valuePlace v = 56 + 4 * v
+
 -- "0–3 the letters YARD; 4 form, 1; 5 C; 6 V; 7 I; 8 oracle state; 9–11 zero; 12–15 plan number".
 unfoldable pub head : Plan → ℕ → List ℕ
 head p q =
-    89 ∷ 65 ∷ 82 ∷ 68 ∷ 1 ∷ components p ∷ variables p ∷ interactions p ∷ q ∷ 0 ∷ 0 ∷ 0 ∷ byte p 4 ∷ byte p 5 ∷ byte p 6 ∷ byte p 7 ∷ []
+    89 ∷ 65 ∷ 82 ∷ 68 ∷ 1 ∷ components p ∷ variables p ∷ interactions p ∷ q ∷ 0 ∷ 0 ∷ 0 ∷ numberByte p 0 ∷ numberByte p 1 ∷ numberByte p 2
+    ∷ numberByte p 3 ∷ []
 
 unfoldable pub valueBytes : List ℤ → List ℕ
 valueBytes [] = []
@@ -31,27 +52,27 @@ image p c m = head p (c .oracle) ++ leBytes 8 m ++ c .state .locations ++ c .sta
 
 -- "Its mark is set and no other byte differs": the image with other marks.
 unfoldable pub withMarks : Image → ℕ → Image
-withMarks b m = take 16 b ++ leBytes 8 m ++ drop 24 b
+withMarks b m = take marksPlace b ++ leBytes 8 m ++ drop locationsPlace b
 
 -- What an image holds.
 unfoldable pub marksOf : Image → ℕ
-marksOf b = u64 b 16
+marksOf b = u64 b marksPlace
 
 unfoldable pub configurationOf : Image → Configuration
 configurationOf b =
     record {
       state =
           record {
-            locations = take maxComponents (drop 24 b);
-            lastPorts = take maxComponents (drop 40 b);
-            values = table maxVariables (λ v. signed (u32 b (56 + 4 * v)));
+            locations = take maxComponents (drop locationsPlace b);
+            lastPorts = take maxComponents (drop lastPortsPlace b);
+            values = table maxVariables (λ v. signed (u32 b (valuePlace v)));
           };
-      oracle = byte b 8;
+      oracle = byte b oraclePlace;
     }
 
 -- 12: "bytes 0–7 or 9–15 do not match form 1 and the plan".
 unfoldable pub headMatches : Plan → Image → Bool
-headMatches p b = every 16 (λ k. eqb k 8 || eqb (byte b k) (byte (head p 0) k))
+headMatches p b = every 16 (λ k. eqb k oraclePlace || eqb (byte b k) (byte (head p 0) k))
 
 -- 13: "a location or last port out of range, an unused entry filled".
 unfoldable pub locationOk : Plan → State → ℕ → Bool
@@ -67,19 +88,19 @@ valueOk p s v = ltb v (variables p) || equalZ (getD (s .values) v (pos 0)) (pos 
 -- 13: "oracle state at or above S or bad" too.
 unfoldable pub configurationOk : Plan → Configuration → Bool
 configurationOk p c =
-    allOf (ltb (c .oracle) (oracleStates p) ∷ good p c ∷ every maxComponents (locationOk p (c .state)) ∷ every maxComponents (lastPortOk p (c .state))
+    allOf (oracleInRange p (c .oracle) ∷ good p c ∷ every maxComponents (locationOk p (c .state)) ∷ every maxComponents (lastPortOk p (c .state))
     ∷ every maxVariables (valueOk p (c .state)) ∷ [])
 
 -- 14: "a mark at or above I, or on an interaction that is not enabled, is outranked, or would end in a good state".
 unfoldable pub markOk : Plan → Configuration → ℕ → Bool
-markOk p c i = allOf (ltb i (interactions p) ∷ eligible p (c .state) i ∷ not (good p (after p c i)) ∷ [])
+markOk p c i = allOf (ltb i (interactions p) ∷ eligible p (c .state) i ∷ not (mayCommit p c i) ∷ [])
 
 unfoldable pub marksOk : Plan → Configuration → ℕ → Bool
 marksOk p c m = every maxInteractions (λ i. implies (bit m i) (markOk p c i))
 
 -- 11: "the image slice is not 312 bytes".
 unfoldable pub lengthRule : Image → Rule
-lengthRule b = rule 11 (eqb (length b) 312)
+lengthRule b = rule 11 (eqb (length b) imageLength)
 
 -- 01, "The caller's programmer" and "The keeper of the image": 11 to 14, in order.
 unfoldable pub imageRules : Plan → Image → List Rule

@@ -4,13 +4,10 @@ pub mod Calls
 pub mod Cases
 pub mod Code
 pub mod Image
-pub mod Monitor
 pub mod Move
 pub mod Plan
-pub mod Property
 pub mod Refusal
 pub mod Rules
 pub mod Run
 pub mod Sample
 pub mod Signed
-pub mod Steps

@@ -6,7 +6,8 @@ use lib.ListN.{getD}
 use lib.Dec.{ltb, eqb}
 use lib.IntN.{pos}
 use Rattle.semantics.specs.Bytes.{allOf, implies, every, some-below, lowest, table, mask}
-use Rattle.semantics.specs.Plan.{Plan, maxComponents, maxVariables, noPort, components, variables, transitions, interactions, propositions, firstOracle, startLocation, startValue, componentOf, source, portOf, destination, guardOf, actionOf, portIn, takesPart, interactionGuard, transferOf, below, propositionOf, verdict, next}
+use Rattle.semantics.specs.Plan.{Plan, maxComponents, maxVariables, noPort, components, variables, transitions, interactions, propositions, oracleStates, firstOracle, startLocation, startValue}
+use Rattle.semantics.specs.Plan.{componentOf, source, portOf, destination, guardOf, actionOf, portIn, takesPart, interactionGuard, transferOf, below, propositionOf, verdict, next}
 use Rattle.semantics.specs.Code.{State, guardHolds, acted}
 
 -- A configuration (01's lane): the components' state and the oracle's.
@@ -24,14 +25,14 @@ unfoldable pub chosen : Plan → State → ℕ → ℕ → ℕ
 chosen p s c q = lowest (transitions p) (ready p s c q)
 
 -- The transition that component c, taking part, uses in interaction i.
-unfoldable pub used : Plan → State → ℕ → ℕ → ℕ
-used p s i c = chosen p s c (portIn p i c)
+unfoldable pub chosenIn : Plan → State → ℕ → ℕ → ℕ
+chosenIn p s i c = chosen p s c (portIn p i c)
 
 -- "An interaction is enabled when its guard holds and each component taking part has, at its location and that port, a
 -- transition whose guard holds."
 unfoldable pub enabled : Plan → State → ℕ → Bool
 enabled p s i =
-    allOf (guardHolds p s (interactionGuard p i) ∷ every (components p) (λ c. implies (takesPart p i c) (ltb (used p s i c) (transitions p))) ∷ [])
+    allOf (guardHolds p s (interactionGuard p i) ∷ every (components p) (λ c. implies (takesPart p i c) (ltb (chosenIn p s i c) (transitions p))) ∷ [])
 
 -- "It is outranked when an enabled interaction lies above it, marked or not."
 unfoldable pub outranked : Plan → State → ℕ → Bool
@@ -45,13 +46,13 @@ eligible p s i = allOf (enabled p s i ∷ not (outranked p s i) ∷ [])
 -- components below n that take part. The transitions are those that the state s, before the move, chose.
 unfoldable pub actedBelow : Plan → State → ℕ → ℕ → State
 actedBelow p s i zero = acted p s (transferOf p i)
-actedBelow p s i (suc n) = let r = actedBelow p s i n in cond (takesPart p i n) (acted p r (actionOf p (used p s i n))) r
+actedBelow p s i (suc n) = let r = actedBelow p s i n in cond (takesPart p i n) (acted p r (actionOf p (chosenIn p s i n))) r
 
 -- ".. the destinations and the last ports. A component that takes no part keeps its last port", and its location.
 unfoldable pub fired : Plan → State → ℕ → State
 fired p s i =
     record {
-      locations = table maxComponents (λ c. cond (takesPart p i c) (destination p (used p s i c)) (getD (s .locations) c 0));
+      locations = table maxComponents (λ c. cond (takesPart p i c) (destination p (chosenIn p s i c)) (getD (s .locations) c 0));
       lastPorts = table maxComponents (λ c. cond (takesPart p i c) (portIn p i c) (getD (s .lastPorts) c 0));
       values = actedBelow p s i (components p) .values;
     }
@@ -68,9 +69,24 @@ judged p q s = record { state = s; oracle = next p q (letter p s) }
 unfoldable pub after : Plan → Configuration → ℕ → Configuration
 after p c i = judged p (c .oracle) (fired p (c .state) i)
 
+-- An oracle state that the plan has.
+unfoldable pub oracleInRange : Plan → ℕ → Bool
+oracleInRange p q = ltb q (oracleStates p)
+
 -- "A state is good when the oracle's new verdict is not 0."
+unfoldable pub oracleGood : Plan → ℕ → Bool
+oracleGood p q = not (eqb (verdict p q) 0)
+
 unfoldable pub good : Plan → Configuration → Bool
-good p c = not (eqb (verdict p (c .oracle)) 0)
+good p c = oracleGood p (c .oracle)
+
+-- The move may be committed: it is enabled, not outranked and ends good.
+unfoldable pub mayCommit : Plan → Configuration → ℕ → Bool
+mayCommit p c i = allOf (eligible p (c .state) i ∷ good p (after p c i) ∷ [])
+
+-- "Settling commits the lowest-numbered enabled, unoutranked move that ends in a good state": that move, or I where there is none.
+unfoldable pub safeMove : Plan → Configuration → ℕ
+safeMove p c = lowest (interactions p) (mayCommit p c)
 
 -- Each component at its starting location, no last port yet, each variable at its starting value; unused entries as the image has them.
 unfoldable pub initialState : Plan → State

@@ -25,6 +25,14 @@ maxInteractions = 64
 abbrev pub noPort : ℕ
 noPort = 255
 
+-- "4–7 the plan number": its byte k.
+abbrev pub numberByte : Plan → ℕ → ℕ
+numberByte p k = byte p (4 + k)
+
+-- Bytes 42 to 47, which are zero: byte k of them.
+abbrev pub reservedByte : Plan → ℕ → ℕ
+reservedByte p k = byte p (42 + k)
+
 -- The header: "Then 16-bit fields: 8 total length; 10 components C; ..".
 abbrev pub totalLength : Plan → ℕ
 totalLength p = u16 p 8
@@ -143,15 +151,21 @@ abbrev pub transferOf : Plan → ℕ → Span
 transferOf p i = spanAt p (interactionAt p i + 20)
 
 -- "Rank row, 8, one an interaction: bit j of row i is set when i lies below j." The rank is BIP's priority: j has priority over i.
+abbrev pub rankAt : Plan → ℕ → ℕ
+rankAt p i = section p 4 + 8 * i
+
 abbrev pub rankRow : Plan → ℕ → ℕ
-rankRow p i = u64 p (section p 4 + 8 * i)
+rankRow p i = u64 p (rankAt p i)
 
 unfoldable pub below : Plan → ℕ → ℕ → Bool
 below p i j = bit (rankRow p i) j
 
 -- "Proposition, 4: start and length."
+abbrev pub propositionAt : Plan → ℕ → ℕ
+propositionAt p k = section p 5 + 4 * k
+
 abbrev pub propositionOf : Plan → ℕ → Span
-propositionOf p k = spanAt p (section p 5 + 4 * k)
+propositionOf p k = spanAt p (propositionAt p k)
 
 -- "Oracle state, 1 + 2^K: verdict, then the next state for each letter."
 abbrev pub oracleAt : Plan → ℕ → ℕ

@@ -1,4 +1,4 @@
--- Refusals in order, 01 "Who causes which number": "The order is by number."
+-- Refusals in order, 01 "Who causes which number": "The order is by number." The definition goes by the order of the list.
 use Prim.Native.Nat.{ℕ}
 use mathlib.Core.Bool.{Bool, cond}
 use mathlib.Core.List.{List, [], _∷_}

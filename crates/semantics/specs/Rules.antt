@@ -1,11 +1,13 @@
 -- The planner's refusals, 1 to 10: when a plan's bytes are a lawful plan.
 use Prim.Native.Nat.{ℕ, suc, _+_}
 use mathlib.Core.Bool.{Bool, not, _&&_, _||_}
-use mathlib.Core.List.{List, [], _∷_}
+use mathlib.Core.List.{List, [], _∷_, _++_}
 use lib.ListN.{length}
 use lib.Dec.{leb, ltb, eqb}
 use Rattle.semantics.specs.Bytes.{byte, allOf, implies, every, some-below}
-use Rattle.semantics.specs.Plan.{Plan, maxComponents, maxVariables, maxInteractions, noPort, totalLength, components, variables, transitions, interactions, propositions, oracleStates, firstOracle, codeWords, letters, section, sectionStart, componentAt, locations, startLocation, ports, variableAt, owner, componentOf, source, portOf, destination, guardOf, actionOf, portIn, takesPart, interactionGuard, transferOf, below, propositionOf, verdict, next}
+use Rattle.semantics.specs.Plan.{Plan, maxComponents, maxVariables, maxInteractions, noPort, reservedByte, totalLength, components, variables, transitions, interactions, propositions}
+use Rattle.semantics.specs.Plan.{oracleStates, firstOracle, codeWords, letters, section, sectionStart, componentAt, locations, startLocation, ports, variableAt, owner, componentOf, source}
+use Rattle.semantics.specs.Plan.{portOf, destination, guardOf, actionOf, portIn, takesPart, interactionGuard, transferOf, below, propositionOf, verdict, next}
 use Rattle.semantics.specs.Code.{asGuard, asUpdate, asProposition, ownedBy, sharedIn, declared, spanOk}
 use Rattle.semantics.specs.Refusal.{Rule, rule, refusal}
 
@@ -17,7 +19,7 @@ within low high n = allOf (leb low n ∷ leb n high ∷ [])
 unfoldable pub headOk : Plan → Bool
 headOk p =
     allOf (leb 48 (length p) ∷ eqb (byte p 0) 80 ∷ eqb (byte p 1) 76 ∷ eqb (byte p 2) 65 ∷ eqb (byte p 3) 78
-    ∷ every 6 (λ k. eqb (byte p (42 + k)) 0) ∷ [])
+    ∷ every 6 (λ k. eqb (reservedByte p k) 0) ∷ [])
 
 -- 2: "a count or the first oracle state outside its range".
 unfoldable pub countsOk : Plan → Bool
@@ -88,13 +90,21 @@ unfoldable pub codeOk : Plan → Bool
 codeOk p =
     allOf (every (transitions p) (transitionCode p) ∷ every (interactions p) (interactionCode p) ∷ every (propositions p) (propositionCode p) ∷ [])
 
--- 01, "The planner": 1 to 10, in order.
-unfoldable pub planRules : Plan → List Rule
-planRules p =
-    rule 1 (headOk p) ∷ rule 2 (countsOk p) ∷ rule 3 (layoutOk p) ∷ rule 4 (every (components p) (componentOk p))
-    ∷ rule 5 (every (variables p) (variableOk p)) ∷ rule 6 (every (transitions p) (transitionOk p))
+-- 01, "The planner": 1 to 10, in order. First the header, then the tables, then the code.
+abbrev pub headerRules : Plan → List Rule
+headerRules p = rule 1 (headOk p) ∷ rule 2 (countsOk p) ∷ rule 3 (layoutOk p) ∷ []
+
+abbrev pub tableRules : Plan → List Rule
+tableRules p =
+    rule 4 (every (components p) (componentOk p)) ∷ rule 5 (every (variables p) (variableOk p)) ∷ rule 6 (every (transitions p) (transitionOk p))
     ∷ rule 7 (every (interactions p) (interactionOk p)) ∷ rule 8 (every (interactions p) (rankOk p))
-    ∷ rule 9 (every (oracleStates p) (oracleOk p)) ∷ rule 10 (codeOk p) ∷ []
+    ∷ rule 9 (every (oracleStates p) (oracleOk p)) ∷ []
+
+abbrev pub codeRules : Plan → List Rule
+codeRules p = rule 10 (codeOk p) ∷ []
+
+unfoldable pub planRules : Plan → List Rule
+planRules p = headerRules p ++ tableRules p ++ codeRules p
 
 -- The number of the first refusal of 1 to 10 that applies; 0 for an accepted plan.
 unfoldable pub planRefusal : Plan → ℕ

@@ -5,15 +5,14 @@ use mathlib.Core.List.{List, [], _∷_}
 use lib.Dec.{ltb, eqb}
 use Rattle.semantics.specs.Bytes.{allOf}
 use Rattle.semantics.specs.Plan.{Plan, interactions}
-use Rattle.semantics.specs.Move.{Configuration, enabled, outranked, eligible, after, good}
+use Rattle.semantics.specs.Move.{Configuration, eligible, after, mayCommit}
 use Rattle.semantics.specs.Image.{Image}
 use Rattle.semantics.specs.Calls.{Answer, Outcome}
 
 -- "A run of the ranked system is a list of moves, each enabled, unoutranked and ending good after those before it".
 unfoldable pub isRun : Plan → Configuration → List ℕ → Bool
 isRun p c [] = true
-isRun p c (i ∷ is) =
-    allOf (ltb i (interactions p) ∷ enabled p (c .state) i ∷ not (outranked p (c .state) i) ∷ good p (after p c i) ∷ isRun p (after p c i) is ∷ [])
+isRun p c (i ∷ is) = allOf (ltb i (interactions p) ∷ mayCommit p c i ∷ isRun p (after p c i) is ∷ [])
 
 -- The answer is a commit: kind 1.
 abbrev pub commits : Answer → Bool

@@ -10,7 +10,7 @@ use Rattle.semantics.specs.Plan.{Plan, components, ports, portIn}
 use Rattle.semantics.specs.Rules.{portOk}
 use Rattle.semantics.proofs.Basics.{le-ltb}
 use Rattle.tables.specs.Limits.{Limits, limit}
-use Rattle.tables.proofs.Conjunctions.{tests}
+use Rattle.words.proofs.TestLaws.{tests}
 
 -- a limit of 0 lets no port through
 limited : (b : Bool) (x n : ℕ) → ltb x (cond b n 0) ≡ allOf (b ∷ ltb x n ∷ [])

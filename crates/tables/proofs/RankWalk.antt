@@ -7,11 +7,11 @@ use mathlib.Core.Bool.{Bool, true, false, not, _&&_, _||_}
 use lib.Dec.{ltb, eqb}
 use lib.Bits.{bitAnd, and-le-l, and-le-r}
 use Rattle.semantics.specs.Bytes.{implies, every, bit, mask}
-use Rattle.semantics.specs.Plan.{Plan, interactions, rankRow}
+use Rattle.semantics.specs.Plan.{Plan, maxInteractions, interactions, rankRow}
 use Rattle.semantics.proofs.Basics.{bool-cases, absurd-bool, and-both, implies-yes, implies-at, all-of, every-at, every-all, ltb-true, ltb-false, eqb-true}
 use Rattle.semantics.proofs.Masks.{bit-zero, bit-mask, mask-lt}
 use Rattle.words.proofs.BitLaws.{bit-and, bit-not, bits-same, bit-above}
-use Rattle.tables.specs.RankRow.{covers, closed, rowOk, Reached, Told, Passed}
+use Rattle.tables.specs.RankRow.{covers, closed, rowOk, Reached, Told, RowPassed}
 use Rattle.tables.proofs.RankRows.{bounded-at}
 
 -- a & !b
@@ -40,7 +40,7 @@ skipped true false false f t z = absurd-bool refl f
 skipped false e a f t z = absurd-bool t refl
 
 -- number j was tried, and is left out with what stands above it
-pub left-next : (p : Plan) (row left j : ℕ) → Left p row left → j < 64 → bit row j ≡ true → covers p row j ≡ true → (next : ℕ) → next ≤ left
+pub left-next : (p : Plan) (row left j : ℕ) → Left p row left → j < maxInteractions → bit row j ≡ true → covers p row j ≡ true → (next : ℕ) → next ≤ left
     → ((k : ℕ) → bit next k ≡ ((bit left k && not (eqb k j)) && not (bit (rankRow p j) k))) → Left p row next
 left-next p row left j l s b v next h e =
     record {
@@ -56,9 +56,9 @@ pub left-done : (p : Plan) (row left : ℕ) → Left p row left → left ≡ 0 �
 left-done p row left l e k t = l .passed k (ap (λ (m : ℕ). bit m k) e ∙ bit-zero k) t
 
 -- a closed row passes each test
-pub closed-covers : (p : Plan) (row : ℕ) → closed p row ≡ true → (j : ℕ) → j < 64 → bit row j ≡ true → covers p row j ≡ true
+pub closed-covers : (p : Plan) (row : ℕ) → closed p row ≡ true → (j : ℕ) → j < maxInteractions → bit row j ≡ true → covers p row j ≡ true
 unfolding closed
-closed-covers p row e j l b = implies-at (bit row j) (covers p row j) (every-at 64 (λ y. implies (bit row y) (covers p row y)) e j l) b
+closed-covers p row e j l b = implies-at (bit row j) (covers p row j) (every-at maxInteractions (λ y. implies (bit row y) (covers p row y)) e j l) b
 
 -- ---- all the rows
 
@@ -83,11 +83,11 @@ proper a b j l s t f =
     λ q. absurd-bool t (sym (bit-mask 64 (bit b) j l) ∙ ap (λ (x : ℕ). bit x j) (sym q) ∙ bit-mask 64 (bit a) j l ∙ f) in
     omega arith
 
-module _ (p : Plan) (all : (i : ℕ) → i < interactions p → Passed p i) where
+module _ (p : Plan) (all : (i : ℕ) → i < interactions p → RowPassed p i) where
   -- the row of a number that is reached lies in the row, where the lesser rows are closed
   reached-covers : (i : ℕ) → i < interactions p
       → ((j : ℕ) → j < interactions p → low (rankRow p j) < low (rankRow p i) → closed p (rankRow p j) ≡ true)
-      → (k : ℕ) → k < 64 → Reached p (rankRow p i) k → covers p (rankRow p i) k ≡ true
+      → (k : ℕ) → k < maxInteractions → Reached p (rankRow p i) k → covers p (rankRow p i) k ≡ true
   unfolding covers
   reached-covers i h lesser k m r =
       bool-cases (eqb k (r .via)) (λ z. subst (λ (x : ℕ). covers p (rankRow p i) x ≡ true) (sym (eqb-true k (r .via) z)) (r .covered))
@@ -96,16 +96,16 @@ module _ (p : Plan) (all : (i : ℕ) → i < interactions p → Passed p i) wher
       let u : j < interactions p = bounded-at p (rankRow p i) (all i h .within) j (r .small) (r .named) in
       let less : low (rankRow p j) < low (rankRow p i) = proper (rankRow p j) (rankRow p i) j (r .small) (r .covered) (r .named) (all j u .strict) in
       let c : covers p (rankRow p j) k ≡ true = closed-covers p (rankRow p j) (lesser j u less) k m d in
-      every-all 64 (λ x. implies (bit (rankRow p k) x) (bit (rankRow p i) x))
+      every-all maxInteractions (λ x. implies (bit (rankRow p k) x) (bit (rankRow p i) x))
       (λ x q. implies-yes (bit (rankRow p k) x) (bit (rankRow p i) x)
-      (λ t. implies-at (bit (rankRow p j) x) (bit (rankRow p i) x) (every-at 64 (λ y. implies (bit (rankRow p j) y) (bit (rankRow p i) y)) (r .covered) x q)
-      (implies-at (bit (rankRow p k) x) (bit (rankRow p j) x) (every-at 64 (λ y. implies (bit (rankRow p k) y) (bit (rankRow p j) y)) c x q) t))))
+      (λ t. implies-at (bit (rankRow p j) x) (bit (rankRow p i) x) (every-at maxInteractions (λ y. implies (bit (rankRow p j) y) (bit (rankRow p i) y)) (r .covered) x q)
+      (implies-at (bit (rankRow p k) x) (bit (rankRow p j) x) (every-at maxInteractions (λ y. implies (bit (rankRow p k) y) (bit (rankRow p j) y)) c x q) t))))
 
   all-closed : (n i : ℕ) → i < interactions p → low (rankRow p i) < n → closed p (rankRow p i) ≡ true
   unfolding closed
   all-closed zero i h l = absurd (not-suc-le-zero l)
   all-closed (suc n) i h l =
-      every-all 64 (λ k. implies (bit (rankRow p i) k) (covers p (rankRow p i) k))
+      every-all maxInteractions (λ k. implies (bit (rankRow p i) k) (covers p (rankRow p i) k))
       (λ k m. implies-yes (bit (rankRow p i) k) (covers p (rankRow p i) k)
       (λ b. reached-covers i h (λ j u less. all-closed n j u (omega arith)) k m (all i h .told k b)))
 

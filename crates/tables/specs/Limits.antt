@@ -5,11 +5,11 @@ use mathlib.Core.List.{List}
 use Prim.Native.Nat.{ℕ, _<_}
 use lib.ListN.{getD}
 use lib.Dec.{ltb}
-use Rattle.semantics.specs.Plan.{Plan, components, ports}
+use Rattle.semantics.specs.Plan.{Plan, maxComponents, components, ports}
 
 -- a port of component c is below this
 unfoldable pub limit : Plan → ℕ → ℕ
 limit p c = cond (ltb c (components p)) (ports p c) 0
 
 pub record Limits (p : Plan) (l : List ℕ) : Type 0 where
-  pub at : (c : ℕ) → c < 16 → getD l c 0 ≡ limit p c
+  pub at : (c : ℕ) → c < maxComponents → getD l c 0 ≡ limit p c

@@ -5,19 +5,19 @@ use mathlib.Core.Bool.{Bool, true, false, not, _||_}
 use mathlib.Core.List.{[], _∷_}
 use lib.Dec.{ltb, eqb}
 use Rattle.semantics.specs.Bytes.{allOf, implies, every, bit}
-use Rattle.semantics.specs.Plan.{Plan, interactions, rankRow}
+use Rattle.semantics.specs.Plan.{Plan, maxInteractions, interactions, rankRow}
 
 -- Each number of the row is an interaction.
 unfoldable pub bounded : Plan → ℕ → Bool
-bounded p row = every 64 (λ j. implies (bit row j) (ltb j (interactions p)))
+bounded p row = every maxInteractions (λ j. implies (bit row j) (ltb j (interactions p)))
 
 -- The row has what stands above j.
 unfoldable pub covers : Plan → ℕ → ℕ → Bool
-covers p row j = every 64 (λ k. implies (bit (rankRow p j) k) (bit row k))
+covers p row j = every maxInteractions (λ k. implies (bit (rankRow p j) k) (bit row k))
 
 -- The row has what stands above each of its numbers.
 unfoldable pub closed : Plan → ℕ → Bool
-closed p row = every 64 (λ j. implies (bit row j) (covers p row j))
+closed p row = every maxInteractions (λ j. implies (bit row j) (covers p row j))
 
 unfoldable pub rowOk : Plan → ℕ → Bool
 rowOk p i = allOf (bounded p (rankRow p i) ∷ not (bit (rankRow p i) i) ∷ closed p (rankRow p i) ∷ [])
@@ -25,7 +25,7 @@ rowOk p i = allOf (bounded p (rankRow p i) ∷ not (bit (rankRow p i) i) ∷ clo
 -- Number k of the row is one whose row lies in it, or stands in the row of such a one.
 pub record Reached (p : Plan) (row k : ℕ) : Type 0 where
   pub via : ℕ
-  pub small : via < 64
+  pub small : via < maxInteractions
   pub named : bit row via ≡ true
   pub covered : covers p row via ≡ true
   pub there : (eqb k via || bit (rankRow p via) k) ≡ true
@@ -34,7 +34,7 @@ abbrev pub Told : Plan → ℕ → Type 0
 Told p row = (k : ℕ) → bit row k ≡ true → Reached p row k
 
 -- What the check finds of row i. Where it finds this of every row, they all keep the rule.
-pub record Passed (p : Plan) (i : ℕ) : Type 0 where
+pub record RowPassed (p : Plan) (i : ℕ) : Type 0 where
   pub within : bounded p (rankRow p i) ≡ true
   pub strict : bit (rankRow p i) i ≡ false
   pub told : Told p (rankRow p i)

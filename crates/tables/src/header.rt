@@ -1,65 +1,45 @@
-// The header of a plan: refusals 1 to 3, and the places of its 16-bit fields.
-use words::bytes::field;
+// The header of a plan: refusals 1 to 3.
+use layout::header::HEADER;
+use layout::header::code_words;
+use layout::header::components;
+use layout::header::first_oracle;
+use layout::header::interactions;
+use layout::header::letters;
+use layout::header::oracle_states;
+use layout::header::propositions;
+use layout::header::reserved_byte;
+use layout::header::section;
+use layout::header::total_length;
+use layout::header::transitions;
+use layout::header::variables;
 use words::bytes::tagged;
 ghost use mathlib.Core.Path.{_≡_};
 ghost use mathlib.Core.Bool.{true};
-ghost use Prim.Native.Nat.{_+_, _≤_, _<_};
+ghost use Prim.Native.Nat.{_≤_, _<_};
 ghost use lib.ListN.{length};
 ghost use lib.Dec.{eqb};
-ghost use Rattle.semantics.specs.Bytes.{byte, every};
-ghost use Rattle.semantics.specs.Plan.{propositions, letters, sectionSize};
+ghost use Rattle.semantics.specs.Bytes.{every};
+ghost use Rattle.semantics.specs.Plan.{reservedByte, propositions, sectionSize};
 ghost use Rattle.semantics.specs.Rules.{within, headOk, countsOk, layoutOk};
-
-// Where the header keeps the length, the counts and the first oracle state.
-const TOTAL_LENGTH: usize = 8;
-
-pub const COMPONENTS: usize = 10;
-
-pub const VARIABLES: usize = 12;
-
-pub const TRANSITIONS: usize = 14;
-
-pub const INTERACTIONS: usize = 16;
-
-const PROPOSITIONS: usize = 18;
-
-pub const ORACLE_STATES: usize = 20;
-
-const FIRST_ORACLE: usize = 22;
-
-const CODE_WORDS: usize = 24;
-
-// Where it keeps the places of the sections.
-const SECTIONS: usize = 26;
-
-pub const COMPONENT_SECTION: usize = 26;
-
-pub const VARIABLE_SECTION: usize = 28;
-
-pub const TRANSITION_SECTION: usize = 30;
-
-pub const INTERACTION_SECTION: usize = 32;
-
-pub const ORACLE_SECTION: usize = 38;
 
 // Whether the header's last six bytes are zero.
 fn reserved_zero(plan: &[u8]) -> bool
     requires { ⌜ 48 ≤ length (now plan) ⌝ }
-    ensures { λ r. ⌜ r ≡ every 6 (λ k. eqb (byte (now (plan .entry)) (42 + k)) 0) ⌝ }
+    ensures { λ r. ⌜ r ≡ every 6 (λ k. eqb (reservedByte (now (plan .entry)) k) 0) ⌝ }
 {
-    (plan[42] == 0)
-        & (plan[43] == 0)
-        & (plan[44] == 0)
-        & (plan[45] == 0)
-        & (plan[46] == 0)
-        & (plan[47] == 0)
+    (reserved_byte(plan, 0) == 0)
+        & (reserved_byte(plan, 1) == 0)
+        & (reserved_byte(plan, 2) == 0)
+        & (reserved_byte(plan, 3) == 0)
+        & (reserved_byte(plan, 4) == 0)
+        & (reserved_byte(plan, 5) == 0)
 }
 
 // 1: the header is there, with its letters and its zeros.
 pub fn head_ok(plan: &[u8]) -> bool
     ensures { λ r. ⌜ r ≡ headOk (now (plan .entry)) ⌝ }
 {
-    if plan.len() < 48 {
+    if plan.len() < HEADER {
         return false;
     }
     tagged(plan, b"PLAN") & reserved_zero(plan)
@@ -77,23 +57,15 @@ pub fn counts_ok(plan: &[u8]) -> bool
     requires { ⌜ 48 ≤ length (now plan) ⌝ }
     ensures { λ r. ⌜ r ≡ countsOk (now (plan .entry)) ⌝ }
 {
-    let states = field(plan, ORACLE_STATES);
-    ranged(1, 16, field(plan, COMPONENTS))
-        & (field(plan, VARIABLES) <= 64)
-        & (field(plan, TRANSITIONS) <= 256)
-        & ranged(1, 64, field(plan, INTERACTIONS))
-        & (field(plan, PROPOSITIONS) <= 4)
+    let states = oracle_states(plan);
+    ranged(1, 16, components(plan))
+        & (variables(plan) <= 64)
+        & (transitions(plan) <= 256)
+        & ranged(1, 64, interactions(plan))
+        & (propositions(plan) <= 4)
         & ranged(1, 32, states)
-        & (field(plan, FIRST_ORACLE) < states)
-        & (field(plan, CODE_WORDS) <= 4096)
-}
-
-// How many letters there are.
-pub fn letter_count(plan: &[u8]) -> usize
-    requires { ⌜ (48 ≤ length (now plan)) × (propositions (now plan) ≤ 4) ⌝ }
-    ensures { λ r. ⌜ (r ≡ letters (now (plan .entry))) × (r ≤ 16) ⌝ }
-{
-    1usize << field(plan, PROPOSITIONS)
+        & (first_oracle(plan) < states)
+        & (code_words(plan) <= 4096)
 }
 
 // The size in bytes of section n, by the counts.
@@ -102,14 +74,14 @@ fn section_size(plan: &[u8], n: usize) -> usize
     ensures { λ r. ⌜ (r ≡ sectionSize (now (plan .entry)) n) × (r ≤ 2000000) ⌝ }
 {
     match n {
-        0 => 4 * field(plan, COMPONENTS),
-        1 => 8 * field(plan, VARIABLES),
-        2 => 12 * field(plan, TRANSITIONS),
-        3 => 24 * field(plan, INTERACTIONS),
-        4 => 8 * field(plan, INTERACTIONS),
-        5 => 4 * field(plan, PROPOSITIONS),
-        6 => (1 + letter_count(plan)) * field(plan, ORACLE_STATES),
-        7 => 2 * field(plan, CODE_WORDS),
+        0 => 4 * components(plan),
+        1 => 8 * variables(plan),
+        2 => 12 * transitions(plan),
+        3 => 24 * interactions(plan),
+        4 => 8 * interactions(plan),
+        5 => 4 * propositions(plan),
+        6 => (1 + letters(plan)) * oracle_states(plan),
+        7 => 2 * code_words(plan),
         _ => 0,
     }
 }
@@ -119,14 +91,14 @@ pub fn layout_ok(plan: &[u8]) -> bool
     requires { ⌜ (48 ≤ length (now plan)) × (countsOk (now plan) ≡ true) ⌝ }
     ensures { λ r. ⌜ r ≡ layoutOk (now (plan .entry)) ⌝ }
 {
-    let mut at = 48;
+    let mut at = HEADER;
     let mut n = 0;
     while n < 8 {
-        if field(plan, SECTIONS + 2 * n) != at {
+        if section(plan, n) != at {
             return false;
         }
         at += section_size(plan, n);
         n += 1;
     }
-    (field(plan, TOTAL_LENGTH) == at) & (plan.len() == at)
+    (total_length(plan) == at) & (plan.len() == at)
 }

@@ -1,5 +1,4 @@
-// The tables of a plan: refusals 1 to 9, a module a group of records.
+// The header, the records and the ranks of a plan: refusals 1 to 8, a module a group.
 pub mod header;
-pub mod oracle;
 pub mod ranks;
 pub mod records;

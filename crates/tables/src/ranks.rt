@@ -1,6 +1,7 @@
 // Rule 8: the ranks are a strict order on the interactions.
+use layout::header::interactions;
+use layout::records::rank_row;
 use words::bits;
-use words::bytes;
 ghost use mathlib.Core.Path.{_≡_};
 ghost use mathlib.Core.Bool.{true, not, _&&_};
 ghost use Prim.Native.Nat.{ℕ, _≤_, _<_};
@@ -8,8 +9,8 @@ ghost use lib.Dec.{ltb};
 ghost use Rattle.semantics.specs.Bytes.{bit, every};
 ghost use Rattle.semantics.specs.Plan.{interactions};
 ghost use Rattle.semantics.specs.Rules.{rankOk};
-ghost use Rattle.code.specs.Laid.{Laid};
-ghost use Rattle.tables.specs.RankRow.{bounded, closed, rowOk, Told, Passed};
+ghost use Rattle.layout.specs.Laid.{Laid};
+ghost use Rattle.tables.specs.RankRow.{bounded, closed, rowOk, Told, RowPassed};
 
 // The numbers of a that are not in b.
 fn without(a: u64, b: u64) -> u64
@@ -24,10 +25,9 @@ fn is_closed(plan: &[u8], row: u64) -> bool
     requires { ⌜ Laid (now plan) × (bounded (now plan) row ≡ true) ⌝ }
     ensures { λ r. ⌜ (r ≡ true → Told (now (plan .entry)) row) × (closed (now (plan .entry)) row ≡ true → r ≡ true) ⌝ }
 {
-    let at = bytes::field(plan, 34);
     let mut left = row;
     while left != 0 {
-        let above = bytes::u64_at(plan, at + 8 * bits::lowest_bit(left));
+        let above = rank_row(plan, bits::lowest_bit(left));
         if !bits::inside(above, row) {
             return false;
         }
@@ -39,9 +39,9 @@ fn is_closed(plan: &[u8], row: u64) -> bool
 // Whether row i keeps the rule, where the rows of its numbers do. The mask has all the interactions.
 fn row_ok(plan: &[u8], all: u64, i: usize) -> bool
     requires { ⌜ Laid (now plan) × (i < interactions (now plan)) × ((j : ℕ) → bit all j ≡ ltb j (interactions (now plan))) ⌝ }
-    ensures { λ r. ⌜ (r ≡ true → Passed (now (plan .entry)) i) × (rowOk (now (plan .entry)) i ≡ true → r ≡ true) ⌝ }
+    ensures { λ r. ⌜ (r ≡ true → RowPassed (now (plan .entry)) i) × (rowOk (now (plan .entry)) i ≡ true → r ≡ true) ⌝ }
 {
-    let row = bytes::u64_at(plan, bytes::field(plan, 34) + 8 * i);
+    let row = rank_row(plan, i);
     if !bits::inside(row, all) {
         return false;
     }
@@ -56,7 +56,7 @@ pub fn ranks_ok(plan: &[u8]) -> bool
     requires { ⌜ Laid (now plan) ⌝ }
     ensures { λ r. ⌜ r ≡ every (interactions (now (plan .entry))) (rankOk (now (plan .entry))) ⌝ }
 {
-    let count = bytes::field(plan, 16);
+    let count = interactions(plan);
     let all = bits::first_bits(count);
     let mut i = 0;
     while i < count {

@@ -1,14 +1,20 @@
 // The records of a plan: refusals 4 to 7.
-use super::header::COMPONENT_SECTION;
-use super::header::COMPONENTS;
-use super::header::INTERACTION_SECTION;
-use super::header::INTERACTIONS;
-use super::header::TRANSITION_SECTION;
-use super::header::TRANSITIONS;
-use super::header::VARIABLE_SECTION;
-use super::header::VARIABLES;
 use super::header::ranged;
-use words::bytes::field;
+use layout::header::components;
+use layout::header::interactions;
+use layout::header::transitions;
+use layout::header::variables;
+use layout::records::COMPONENT_ZERO;
+use layout::records::DESTINATION;
+use layout::records::PORT;
+use layout::records::PORTS;
+use layout::records::SOURCE;
+use layout::records::START_LOCATION;
+use layout::records::VARIABLE_ZEROS;
+use layout::records::component_at;
+use layout::records::interaction_at;
+use layout::records::transition_at;
+use layout::records::variable_at;
 use words::bytes::wide;
 ghost use mathlib.Core.Path.{_≡_};
 ghost use mathlib.Core.Bool.{_||_};
@@ -17,7 +23,7 @@ ghost use lib.Dec.{eqb, ltb};
 ghost use Rattle.semantics.specs.Bytes.{every};
 ghost use Rattle.semantics.specs.Plan.{components, variables, transitions, interactions};
 ghost use Rattle.semantics.specs.Rules.{componentOk, variableOk, transitionOk, interactionOk};
-ghost use Rattle.code.specs.Laid.{Laid};
+ghost use Rattle.layout.specs.Laid.{Laid};
 ghost use Rattle.tables.specs.Limits.{Limits};
 
 // 4, for component c: its locations, its starting location, its ports and its zero.
@@ -25,11 +31,11 @@ fn component_ok(plan: &[u8], c: usize) -> bool
     requires { ⌜ Laid (now plan) × (c < components (now plan)) ⌝ }
     ensures { λ r. ⌜ r ≡ componentOk (now (plan .entry)) c ⌝ }
 {
-    let at = field(plan, COMPONENT_SECTION) + 4 * c;
+    let at = component_at(plan, c);
     ranged(1, 16, wide(plan[at]))
-        & (plan[at + 1] < plan[at])
-        & ranged(1, 16, wide(plan[at + 2]))
-        & (plan[at + 3] == 0)
+        & (plan[at + START_LOCATION] < plan[at])
+        & ranged(1, 16, wide(plan[at + PORTS]))
+        & (plan[at + COMPONENT_ZERO] == 0)
 }
 
 // 4: every component keeps its rule.
@@ -37,7 +43,7 @@ pub fn components_ok(plan: &[u8]) -> bool
     requires { ⌜ Laid (now plan) ⌝ }
     ensures { λ r. ⌜ r ≡ every (components (now (plan .entry))) (componentOk (now (plan .entry))) ⌝ }
 {
-    let count = field(plan, COMPONENTS);
+    let count = components(plan);
     let mut c = 0;
     while c < count {
         if !component_ok(plan, c) {
@@ -53,9 +59,10 @@ fn variable_ok(plan: &[u8], v: usize) -> bool
     requires { ⌜ Laid (now plan) × (v < variables (now plan)) ⌝ }
     ensures { λ r. ⌜ r ≡ variableOk (now (plan .entry)) v ⌝ }
 {
-    let at = field(plan, VARIABLE_SECTION) + 8 * v;
-    (wide(plan[at]) < field(plan, COMPONENTS))
-        & ((plan[at + 1] == 0) & (plan[at + 2] == 0) & (plan[at + 3] == 0))
+    let at = variable_at(plan, v);
+    let zeros = at + VARIABLE_ZEROS;
+    (wide(plan[at]) < components(plan))
+        & ((plan[zeros] == 0) & (plan[zeros + 1] == 0) & (plan[zeros + 2] == 0))
 }
 
 // 5: every variable keeps its rule.
@@ -63,7 +70,7 @@ pub fn variables_ok(plan: &[u8]) -> bool
     requires { ⌜ Laid (now plan) ⌝ }
     ensures { λ r. ⌜ r ≡ every (variables (now (plan .entry))) (variableOk (now (plan .entry))) ⌝ }
 {
-    let count = field(plan, VARIABLES);
+    let count = variables(plan);
     let mut v = 0;
     while v < count {
         if !variable_ok(plan, v) {
@@ -79,15 +86,17 @@ fn transition_ok(plan: &[u8], t: usize) -> bool
     requires { ⌜ Laid (now plan) × (t < transitions (now plan)) ⌝ }
     ensures { λ r. ⌜ r ≡ transitionOk (now (plan .entry)) t ⌝ }
 {
-    let at = field(plan, TRANSITION_SECTION) + 12 * t;
+    let at = transition_at(plan, t);
     let c = wide(plan[at]);
-    if c >= field(plan, COMPONENTS) {
+    if c >= components(plan) {
         return false;
     }
-    let home = field(plan, COMPONENT_SECTION) + 4 * c;
+    let home = component_at(plan, c);
     let locations = plan[home];
-    let ports = plan[home + 2];
-    (plan[at + 1] < locations) & (plan[at + 2] < ports) & (plan[at + 3] < locations)
+    let ports = plan[home + PORTS];
+    (plan[at + SOURCE] < locations)
+        & (plan[at + PORT] < ports)
+        & (plan[at + DESTINATION] < locations)
 }
 
 // 6: every transition keeps its rule.
@@ -95,7 +104,7 @@ pub fn transitions_ok(plan: &[u8]) -> bool
     requires { ⌜ Laid (now plan) ⌝ }
     ensures { λ r. ⌜ r ≡ every (transitions (now (plan .entry))) (transitionOk (now (plan .entry))) ⌝ }
 {
-    let count = field(plan, TRANSITIONS);
+    let count = transitions(plan);
     let mut t = 0;
     while t < count {
         if !transition_ok(plan, t) {
@@ -111,12 +120,11 @@ fn port_limits(plan: &[u8]) -> [u8; 16]
     requires { ⌜ Laid (now plan) ⌝ }
     ensures { λ r. ⌜ Limits (now (plan .entry)) r ⌝ }
 {
-    let count = field(plan, COMPONENTS);
-    let base = field(plan, COMPONENT_SECTION);
+    let count = components(plan);
     let mut limits = [0u8; 16];
     let mut c = 0;
     while c < count {
-        limits[c] = plan[base + 4 * c + 2];
+        limits[c] = plan[component_at(plan, c) + PORTS];
         c += 1;
     }
     limits
@@ -134,7 +142,7 @@ fn interaction_ok(plan: &[u8], limits: &[u8; 16], i: usize) -> bool
     requires { ⌜ Laid (now plan) × Limits (now plan) (now limits) × (i < interactions (now plan)) ⌝ }
     ensures { λ r. ⌜ r ≡ interactionOk (now (plan .entry)) i ⌝ }
 {
-    let at = field(plan, INTERACTION_SECTION) + 24 * i;
+    let at = interaction_at(plan, i);
     let mut good = true;
     let mut any = false;
     let mut c = 0;
@@ -152,7 +160,7 @@ pub fn interactions_ok(plan: &[u8]) -> bool
     ensures { λ r. ⌜ r ≡ every (interactions (now (plan .entry))) (interactionOk (now (plan .entry))) ⌝ }
 {
     let limits = port_limits(plan);
-    let count = field(plan, INTERACTIONS);
+    let count = interactions(plan);
     let mut i = 0;
     while i < count {
         if !interaction_ok(plan, &limits, i) {

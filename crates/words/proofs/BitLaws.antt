@@ -4,14 +4,14 @@ use Prim.Native.Nat.{ℕ, zero, suc, _+_, _-_, _*_, _/_, _%_, _^_, _≤_, _<_, z
 use native.Mathlib.Nat.{le-of-suc-le-suc, not-suc-le-zero, lt-of-le-of-lt, pow-suc, div-one, add-zero, zero-add, suc-add, one-mul, mod-lt, zero-lt-suc}
 use native.Mathlib.Numerals.{one-add}
 use native.Mathlib.Omega.{arith}
-use mathlib.Core.Bool.{Bool, true, false, not, cond, _&&_, _||_}
+use mathlib.Core.Bool.{Bool, true, false, not, _&&_, _||_, and-true, and-self}
 use lib.Dec.{ltb, eqb, eqb·suc-zero, eqb·zero-suc, eqb·suc-suc, leb·suc-suc, lit<}
 use lib.Pow.{pow-pos, shr-shr, shl-exact}
 use lib.Bits.{bitAnd, bitOr, and-shr, and-mod, and-mask, and-le-l, or-shr, or-mod, or-lt}
 use lib.Count.{trailingZeros, under}
 use Rattle.semantics.specs.Bytes.{implies, every, some-below, lowest, bit, mask}
 use Rattle.semantics.proofs.Basics.{bool-cases, absurd-bool, same-test, not-yes, not-no, ltb-true, lt-ltb, le-ltb, eqb-true, eq-eqb, ne-eqb, every-at, every-all, some-found, some-none, Lowest, lowest-is, lowest-unique, lowest-none}
-use Rattle.semantics.proofs.Masks.{bit-zero, bit-mask-over, mask-same}
+use Rattle.semantics.proofs.Masks.{bit-zero, bit-mask-over, mask-same, mask-bits}
 
 -- ---- shifts
 
@@ -97,17 +97,6 @@ bit-not (suc n) a (suc k) h l =
 
 -- ---- a number of n bits is known by its bits
 
-digit-back : (m d : ℕ) → m % 2 ≡ d → cond (eqb d 1) 1 0 + 2 * (m / 2) ≡ m
-digit-back m zero e = omega arith
-digit-back m (suc zero) e = omega arith
-digit-back m (suc (suc d)) e = absurd (omega arith)
-
-pub mask-bits : (n m : ℕ) → m < 2 ^ n → mask n (bit m) ≡ m
-unfolding mask bit
-mask-bits zero m h = omega arith
-mask-bits (suc n) m h =
-    ap (λ (x : ℕ). cond (eqb (m % 2) 1) 1 0 + 2 * x) (mask-bits n (m / 2) (omega (arith, pow-suc 2 n))) ∙ digit-back m (m % 2) refl
-
 -- the mask of a test is the number whose bits are that test
 pub mask-is : (n m : ℕ) (f : ℕ → Bool) → m < 2 ^ n → ((k : ℕ) → k < n → bit m k ≡ f k) → m ≡ mask n f
 mask-is n m f h e = sym (mask-bits n m h) ∙ mask-same n f (bit m) e
@@ -163,10 +152,6 @@ lowest-lt n m h l =
 pub lowest-set : (n m : ℕ) → 0 < m → m < 2 ^ n → bit m (lowest n (bit m)) ≡ true
 lowest-set n m h l = lowest-is n (bit m) .hit (lowest-lt n m h l)
 
-twice : (b : Bool) → (b && b) ≡ (b && true)
-twice true = refl
-twice false = refl
-
 clear-step : (m t d : ℕ) → 0 < m → m % 2 ≡ d
     → (0 < m / 2 → (j : ℕ) → (bit (m / 2) j && bit (m / 2 - 1) j) ≡ (bit (m / 2) j && not (eqb j t)))
     → (j : ℕ) → (bit m j && bit (m - 1) j) ≡ (bit m j && not (eqb j (under d t)))
@@ -181,7 +166,7 @@ clear-step m t (suc zero) h e r zero =
     let q : (m - 1) % 2 ≡ 0 = omega arith in ap (λ (x : ℕ). eqb (m % 2) 1 && eqb x 1) q
 clear-step m t (suc zero) h e r (suc j) =
     let q : (m - 1) / 2 ≡ m / 2 = omega arith in
-    ap (λ (x : ℕ). bit (m / 2) j && bit x j) q ∙ twice (bit (m / 2) j) ∙ ap (λ (b : Bool). bit (m / 2) j && not b) (sym (eqb·suc-zero j))
+    ap (λ (x : ℕ). bit (m / 2) j && bit x j) q ∙ and-self (bit (m / 2) j) ∙ sym (and-true (bit (m / 2) j)) ∙ ap (λ (b : Bool). bit (m / 2) j && not b) (sym (eqb·suc-zero j))
 clear-step m t (suc (suc d)) h e r j = absurd (omega arith)
 
 clear : (n m : ℕ) → 0 < m → m < 2 ^ n → (j : ℕ) → (bit m j && bit (m - 1) j) ≡ (bit m j && not (eqb j (trailingZeros n m)))

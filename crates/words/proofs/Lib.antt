@@ -1,4 +1,6 @@
 pub mod BitLaws
+pub mod Loops
 pub mod MaskWalk
+pub mod MatchRest
 pub mod SpliceLaws
 pub mod TestLaws

@@ -1,14 +1,14 @@
 -- Laws of writing over a part of a list, and of numbers written as bytes in two parts.
 use mathlib.Core.Path.{_≡_, refl, sym, ap, ap₂, _∙_}
 use Prim.Native.Nat.{ℕ, zero, suc, _+_, _*_, _/_, _%_, _^_, _≤_, _<_}
-use native.Mathlib.Nat.{zero-add, suc-add, div-one, pow-suc, pow-succ', mod-lt, div-div-eq-div-mul}
+use native.Mathlib.Nat.{add-zero, zero-add, suc-add, div-one, pow-suc, pow-succ', mod-lt, div-div-eq-div-mul}
 use lib.Arith.{mod-mul, digits-mod, digits-div}
 use lib.Dec.{lit<}
 use native.Mathlib.Omega.{arith}
 use mathlib.Core.List.{List, [], _∷_, _++_, append-assoc, append-nil}
 use lib.Bits.{bitAnd, and-mask}
 use lib.Pow.{shr-shr}
-use lib.ListN.{length, take, drop, set, length-append, drop-of-length-le}
+use lib.ListN.{length, take, drop, set, length-append, take-append-drop, drop-of-length-le}
 use lib.Seq.{length-take-le, take-at, take-length, drop-append-add, drop-drop, sets, sets-eq, paste}
 use Rattle.semantics.specs.Bytes.{leBytes}
 use Rattle.semantics.proofs.Masks.{length-leBytes}
@@ -35,6 +35,11 @@ splice-splice l k p j q e h =
 pub splice-sets : (l : List ℕ) (k : ℕ) (vs : List ℕ) → k + length vs ≤ length l → sets l k vs ≡ splice l k vs
 unfolding splice
 splice-sets l k vs h = sets-eq vs l k h
+
+-- nothing is written
+pub splice-none : (l : List ℕ) (k : ℕ) → splice l k [] ≡ l
+unfolding splice
+splice-none l k = rw (append-nil (take k l), add-zero k) (take-append-drop k l)
 
 -- a part as long as the list is the whole of it
 pub splice-all : (l vs : List ℕ) → length vs ≡ length l → splice l 0 vs ≡ vs

@@ -3,8 +3,7 @@ ghost use mathlib.Core.Path.{_≡_};
 ghost use Prim.Native.Nat.{ℕ, _≤_, _<_};
 ghost use mathlib.Core.Bool.{not, _&&_};
 ghost use lib.Dec.{eqb, ltb};
-ghost use Rattle.semantics.specs.Bytes.{bit, lowest, every, some-below, implies};
-ghost use Rattle.semantics.specs.Calls.{withBit};
+ghost use Rattle.semantics.specs.Bytes.{bit, lowest, every, some-below, implies, withBit};
 
 // Whether bit k is set.
 pub fn bit(m: u64, k: usize) -> bool

@@ -1,13 +1,13 @@
 // Runs the calls on an image: for each case a line with the case and what the call answered.
-use crate::answers::say;
-use crate::build::Buffer;
-use crate::build::lay;
-use crate::build::poke;
-use crate::build::put;
-use crate::build::put_words;
+use crate::Buffer;
+use crate::lay;
+use crate::poke;
+use crate::put;
+use crate::put_words;
+use crate::say;
 
 // Memory for an image of 312 bytes, and for one that is a byte too long.
-pub type Image = [u8; 313];
+type Image = [u8; 313];
 
 // Kind 6, which is no answer: a part was longer than the memory it is of.
 const LONGER: u32 = 6 * 65536;
@@ -341,18 +341,19 @@ fn stalls(buf: &mut Buffer, image: &mut Image) {
     );
 }
 
-// Every case on an image, in the order of the stored output.
-pub fn run(buf: &mut Buffer) {
+// Every case on an image, in the order of the stored output. It prints only, which no contract states.
+pub(super) fn run() {
+    let mut buf = io::large_buffer();
     let mut image = [0u8; 313];
-    starts(buf, &mut image);
-    lengths(buf, &mut image);
-    forms(buf, &mut image);
-    states(buf, &mut image);
-    marks(buf, &mut image);
-    bad_starts(buf, &mut image);
-    tries(buf, &mut image);
-    cancelled(buf, &mut image);
-    all_marks(buf, &mut image);
-    ranks(buf, &mut image);
-    stalls(buf, &mut image);
+    starts(&mut buf, &mut image);
+    lengths(&mut buf, &mut image);
+    forms(&mut buf, &mut image);
+    states(&mut buf, &mut image);
+    marks(&mut buf, &mut image);
+    bad_starts(&mut buf, &mut image);
+    tries(&mut buf, &mut image);
+    cancelled(&mut buf, &mut image);
+    all_marks(&mut buf, &mut image);
+    ranks(&mut buf, &mut image);
+    stalls(&mut buf, &mut image);
 }

@@ -1,6 +1,6 @@
 //! What a call answers: a kind and a number.
 
-/// Why a call was refused; the lowest that applies is the answer.
+/// Why a call was refused; the first that applies, in the order of this list, is the answer.
 #[derive(Clone, Copy, Debug, PartialEq, Eq)]
 pub enum Refusal {
     Head = 1,

@@ -1,38 +1,32 @@
-use Rattle.checker.proofs.Tests.{first-fails, second-fails, third-decides}
+use Rattle.words.proofs.TestLaws.{first-fails, second-fails, third-decides}
 use Rattle.semantics.proofs.Basics.{not-yes, not-no, le-ltb, lt-ltb}
 use Rattle.semantics.specs.Plan.{components}
 use lib.Dec.{ltb, eqb}
-use lib.ListN.{getD}
+use Rattle.semantics.specs.Bytes.{byte}
 use lib.Bits.{and-mask}
 use mathlib.Core.Bool.{_||_}
 use Prim.Native.Nat.{ℕ, _+_, _*_, _/_}
-use mathlib.Core.Path.{ap, ap₂, _∙_}
+use mathlib.Core.Path.{ap, ap₂, _∙_, sym}
 use borrow.Author.Needs.{needs}
 use Rattle.checker.proofs.span.may_ask_port.Statement.{statement}
 use Rattle.checker.proofs.span.may_ask_port.Tie as tie
 
 returns : tie.Need-returns
-returns c = first-fails _ (not-yes (c .before .before .args .looks) (c .if1 .taken))
+returns c = sym (first-fails _ _ (not-yes (c .before .before .args .looks) (c .if1 .taken)))
 
-field-requires : tie.Need-field-requires
-field-requires c κs = search needs
+components-requires : tie.Need-components-requires
+components-requires c κs = search needs
 
 returns-2 : tie.Need-returns-2
 returns-2 c = let a = c .before .before .before .before .args in
     second-fails _ (not-no (a .looks) (c .before .before .if1 .left))
-    (le-ltb (a .n / 256) (components (a .plan .now)) (rw (c .before .field .ensures .0) at (c .if2 .taken)))
+    (le-ltb (a .n / 256) (components (a .plan .now)) (rw (c .before .components .ensures .0) at (c .if2 .taken)))
 
-field-requires-2 : tie.Need-field-requires-2
-field-requires-2 c κs = search needs
-
-mul-wide : tie.Need-mul-wide
-mul-wide c = search needs
+component-at-requires : tie.Need-component-at-requires
+component-at-requires c κs = search needs
 
 add-wide : tie.Need-add-wide
 add-wide c = search needs
-
-add-wide-2 : tie.Need-add-wide-2
-add-wide-2 c = search needs
 
 shared-slice-read-wide : tie.Need-shared-slice-read-wide
 shared-slice-read-wide c = search needs
@@ -43,21 +37,19 @@ wide-requires c κs = search needs
 returns-3 : tie.Need-returns-3
 returns-3 c = let e = c .before .before .before in let o = e .before .before in let a = o .before .before .args in
     third-decides (not-no (a .looks) (o .if1 .left))
-    (lt-ltb (a .n / 256) (components (a .plan .now)) (rw (e .before .field .ensures .0) at (e .if2 .left)))
+    (lt-ltb (a .n / 256) (components (a .plan .now)) (rw (e .before .components .ensures .0) at (e .if2 .left)))
     (ap₂ (λ (x y : ℕ). eqb x 255 || ltb x y) (and-mask (a .n) 8)
-    (c .wide .ensures .0 ∙ ap (λ (x : ℕ). getD (a .plan .now) (x + 4 * (a .n / 256) + 2) 0) (c .before .before .field2 .ensures .0)))
+    (c .wide .ensures .0 ∙ ap (λ (x : ℕ). byte (a .plan .now) (x + 2)) (c .before .before .component-at .ensures .0)))
 
 pub may-ask-port-spec : {M : Type 1} → statement M
 may-ask-port-spec =
     tie.close
     (tie.spec
     returns
-    field-requires
+    components-requires
     returns-2
-    field-requires-2
-    mul-wide
+    component-at-requires
     add-wide
-    add-wide-2
     shared-slice-read-wide
     wide-requires
     returns-3)

@@ -1,17 +1,17 @@
-use Rattle.choices.proofs.PlanLaws.{guard-taken}
+use Rattle.code.proofs.TakenSpans.{guard-taken}
 use Rattle.code.specs.Taken.{Taken}
-use Rattle.lane.specs.Runs.{site}
-use Rattle.semantics.specs.Code.{guardHolds}
+use Rattle.semantics.specs.Code.{guardHolds, site}
 use Rattle.semantics.specs.Plan.{spanAt}
 use native.Mathlib.Omega.{arith}
 use Prim.Native.Nat.{ℕ, _+_}
 use mathlib.Core.Path.{ap, sym, subst, _∙_}
+use Rattle.layout.proofs.Sections.{laid-accepted}
 use borrow.Author.Needs.{needs}
 use Rattle.choices.proofs.choice.guard_of.Statement.{statement}
 use Rattle.choices.proofs.choice.guard_of.Tie as tie
 
 transition-at-requires : tie.Need-transition-at-requires
-transition-at-requires c κs = search needs
+transition-at-requires c κs = let s = c .before in (laid-accepted _ (s .pre .0), s .pre .1)
 
 add-guard-holds : tie.Need-add-guard-holds
 add-guard-holds c = search needs

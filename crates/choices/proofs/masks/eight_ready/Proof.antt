@@ -3,23 +3,22 @@ use mathlib.Core.Bool.{Bool}
 use Prim.Native.Nat.{ℕ, _+_, _/_, _<_}
 use native.Mathlib.Omega.{arith}
 use Rattle.semantics.specs.Bytes.{bit}
-use Rattle.semantics.proofs.Basics.{not-yes, not-no}
+use Rattle.semantics.proofs.Basics.{not-yes, not-no, every-fails}
 use Rattle.words.proofs.MaskWalk.{Walk, walk-start, walk-next, walk-done}
 use Rattle.choices.specs.Choices.{portReady}
-use Rattle.choices.proofs.MaskLaws.{every-fails}
 use Rattle.choices.proofs.PartLaws.{eight-done}
 use Rattle.choices.proofs.masks.eight_ready.Statement.{statement}
 use Rattle.choices.proofs.masks.eight_ready.Tie as tie
 
 abbrev Inv-loop : tie.InvT-loop
-Inv-loop plan picks i base left₀ left = Walk left₀ (λ j. portReady plan picks i (base + j / 8)) left
+Inv-loop plan chosen i base left₀ left = Walk left₀ (λ j. portReady plan chosen i (base + j / 8)) left
 
 abbrev μ-loop : tie.MeasureT-loop
-μ-loop plan picks i base left₀ left = left
+μ-loop plan chosen i base left₀ left = left
 
 -- the component of a bit
 abbrev ready : tie.Start Inv-loop μ-loop → ℕ → Bool
-ready s j = portReady (s .args .plan .now) (s .args .picks .now) (s .args .i) (s .args .base + j / 8)
+ready s j = portReady (s .args .plan .now) (s .args .chosen .now) (s .args .i) (s .args .base + j / 8)
 
 -- it is one of the eight
 eighth : (c : tie.After-lowest-bit Inv-loop μ-loop) → c .lowest-bit .result / 8 < 8
@@ -44,7 +43,7 @@ returns : tie.Need-returns Inv-loop μ-loop
 returns c =
     let a = c .before .before .before .before .before .before .before .args in
     let b = c .before .before in
-    every-fails 8 (λ x. portReady (a .plan .now) (a .picks .now) (a .i) (a .base + x)) (b .lowest-bit .result / 8) (eighth b) (sym (c .before .port-ready .ensures) ∙ not-yes _ (c .if1 .taken))
+    sym (every-fails 8 (λ x. portReady (a .plan .now) (a .chosen .now) (a .i) (a .base + x)) (b .lowest-bit .result / 8) (eighth b) (sym (c .before .port-ready .ensures) ∙ not-yes _ (c .if1 .taken)))
 
 without-lowest-requires : tie.Need-without-lowest-requires Inv-loop μ-loop
 without-lowest-requires c κs = omega arith
@@ -66,7 +65,7 @@ returns-2 c =
     let a = s .args in
     let l = c .before .loop in
     let m = c .before .before .part-bits in
-    sym (eight-done (a .plan .now) (s .pre .0) (a .i) (s .pre .1 .0) (a .picks .now) (a .base) (m .result) (m .ensures) (walk-done 64 (m .result) (ready s) (l .left) (l .inv) (omega arith)))
+    sym (eight-done (a .plan .now) (s .pre .0) (a .i) (s .pre .1 .0) (a .chosen .now) (a .base) (m .result) (m .ensures) (walk-done 64 (m .result) (ready s) (l .left) (l .inv) (omega arith)))
 
 pub eight-ready-spec : {M : Type 1} → statement M
 eight-ready-spec =

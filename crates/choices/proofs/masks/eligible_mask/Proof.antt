@@ -1,8 +1,7 @@
 use Rattle.semantics.proofs.Basics.{not-yes, not-no}
-use Rattle.semantics.specs.Calls.{withBit}
 use Rattle.choices.proofs.MaskLaws.{passed, passed-none, passed-all, lowest-held, held-inside, still-inside, passed-yes, passed-no, stands-yes, stands-no}
-use Rattle.code.proofs.Sections.{laid-accepted}
-use Rattle.semantics.specs.Bytes.{bit}
+use Rattle.layout.proofs.Sections.{laid-accepted}
+use Rattle.semantics.specs.Bytes.{bit, withBit}
 use native.Mathlib.Omega.{arith}
 use native.Mathlib.Nat.{le-refl}
 use Prim.Native.Nat.{ℕ, _≤_}
@@ -14,10 +13,10 @@ use Rattle.choices.proofs.masks.eligible_mask.Statement.{statement}
 use Rattle.choices.proofs.masks.eligible_mask.Tie as tie
 
 abbrev Inv-loop : tie.InvT-loop
-Inv-loop plan en left₀ out₀ left out = (left ≤ en) × ((j : ℕ) → bit left j ≡ true → bit en j ≡ true) × (out ≡ passed plan en left)
+Inv-loop plan enabled left₀ out₀ left out = (left ≤ enabled) × ((j : ℕ) → bit left j ≡ true → bit enabled j ≡ true) × (out ≡ passed plan enabled left)
 
 abbrev μ-loop : tie.MeasureT-loop
-μ-loop plan en left₀ out₀ left out = left
+μ-loop plan enabled left₀ out₀ left out = left
 
 loop-holds : tie.Need-loop-holds Inv-loop μ-loop
 loop-holds c = (le-refl _, λ j e. e, passed-none _ _)
@@ -30,7 +29,7 @@ is-outranked-requires c κs =
     let b = c .before .before in
     let s = b .before .before in
     let held = b .loop .inv .1 (c .lowest-bit .result) (lowest-held (b .loop .left) (c .lowest-bit .result) (c .lowest-bit .ensures .0) (omega arith) (omega arith)) in
-    (s .pre .0, held-inside _ (s .args .en) (c .lowest-bit .result) (s .pre .1) held)
+    (s .pre .0, held-inside _ (s .args .enabled) (c .lowest-bit .result) (s .pre .1) held)
 
 with-bit-requires : tie.Need-with-bit-requires Inv-loop μ-loop
 with-bit-requires c κs = c .before .before .lowest-bit .ensures .1
@@ -49,19 +48,19 @@ loop-again c =
     let i = o .lowest-bit .result in
     let left = b .loop .left in
     let next = c .without-lowest .result in
-    let held : bit (s .args .en) i ≡ true = b .loop .inv .1 i (lowest-held left i (o .lowest-bit .ensures .0) (omega arith) (omega arith)) in
+    let held : bit (s .args .enabled) i ≡ true = b .loop .inv .1 i (lowest-held left i (o .lowest-bit .ensures .0) (omega arith) (omega arith)) in
     let cut : (j : ℕ) → bit next j ≡ (bit left j && not (eqb j i)) = λ j. c .without-lowest .ensures .0 j ∙ ap (λ (x : ℕ). bit left j && not (eqb j x)) (sym (o .lowest-bit .ensures .0)) in (
       omega arith,
-      still-inside (s .args .plan .now) (s .args .en) left next i cut (b .loop .inv .1),
+      still-inside (s .args .plan .now) (s .args .enabled) left next i cut (b .loop .inv .1),
       ⊎-elim
-          (λ w. w .2 ∙ w .1 .ensures ∙ ap (λ (x : ℕ). withBit x i) (b .loop .inv .2) ∙ passed-yes (s .args .plan .now) (s .args .en) left next i cut
-          (held-inside _ (s .args .en) i (s .pre .1) held) (laid-accepted _ (s .pre .0) .interactions≤) (stands-yes (s .args .plan .now) (s .args .en) i held (sym (c .before .before .is-outranked .ensures) ∙ not-yes _ (w .0 .taken))))
-          (λ w. w .1 ∙ b .loop .inv .2 ∙ passed-no (s .args .plan .now) (s .args .en) left next i cut (stands-no (s .args .plan .now) (s .args .en) i (sym (c .before .before .is-outranked .ensures) ∙ not-no _ (w .0 .left))))
+          (λ w. w .2 ∙ w .1 .ensures ∙ ap (λ (x : ℕ). withBit x i) (b .loop .inv .2) ∙ passed-yes (s .args .plan .now) (s .args .enabled) left next i cut
+          (held-inside _ (s .args .enabled) i (s .pre .1) held) (laid-accepted _ (s .pre .0) .interactions≤) (stands-yes (s .args .plan .now) (s .args .enabled) i held (sym (c .before .before .is-outranked .ensures) ∙ not-yes _ (w .0 .taken))))
+          (λ w. w .1 ∙ b .loop .inv .2 ∙ passed-no (s .args .plan .now) (s .args .enabled) left next i cut (stands-no (s .args .plan .now) (s .args .enabled) i (sym (c .before .before .is-outranked .ensures) ∙ not-no _ (w .0 .left))))
           (c .before .if1 .came),
     )
 
 returns : tie.Need-returns Inv-loop μ-loop
-returns c = let b = c .before in let s = b .before .before in b .loop .inv .2 ∙ ap (passed (s .args .plan .now) (s .args .en)) (omega arith) ∙ passed-all (s .args .plan .now) (s .args .en)
+returns c = let b = c .before in let s = b .before .before in b .loop .inv .2 ∙ ap (passed (s .args .plan .now) (s .args .enabled)) (omega arith) ∙ passed-all (s .args .plan .now) (s .args .enabled)
 
 pub eligible-mask-spec : {M : Type 1} → statement M
 eligible-mask-spec =

@@ -1,29 +1,28 @@
-use Rattle.choices.proofs.MaskLaws.{mask-start, mask-yes, mask-no}
-use Rattle.code.proofs.Sections.{laid-accepted}
-use Rattle.lane.specs.Runs.{site}
+use Rattle.layout.proofs.Sections.{laid-accepted}
 use Rattle.semantics.proofs.Masks.{mask-lt}
-use Rattle.semantics.specs.Calls.{withBit}
 use Rattle.semantics.specs.Move.{enabled}
 use Rattle.semantics.specs.Plan.{interactions}
-use Rattle.semantics.specs.Bytes.{mask}
+use Rattle.semantics.specs.Bytes.{mask, withBit}
 use native.Mathlib.Omega.{arith}
 use Prim.Native.Nat.{ℕ, _^_, _≤_, _<_, _-_}
 use mathlib.Core.Logic.{⊎-elim}
 use mathlib.Core.Path.{_≡_, ap, sym, subst, _∙_}
+use Rattle.words.proofs.Loops.{mask-start, mask-yes, mask-no}
+use Rattle.semantics.specs.Code.{site}
 use Rattle.choices.proofs.masks.enabled_mask.Statement.{statement}
 use Rattle.choices.proofs.masks.enabled_mask.Tie as tie
 
 abbrev Inv-loop : tie.InvT-loop
-Inv-loop plan locations ports values picks count out₀ i₀ out i = (i ≤ count) × (count ≡ interactions plan) × (out ≡ mask i (enabled plan (site locations ports values)))
+Inv-loop plan locations ports values chosen count out₀ i₀ out i = (i ≤ count) × (count ≡ interactions plan) × (out ≡ mask i (enabled plan (site locations ports values)))
 
 abbrev μ-loop : tie.MeasureT-loop
-μ-loop plan locations ports values picks count out₀ i₀ out i = count - i
+μ-loop plan locations ports values chosen count out₀ i₀ out i = count - i
 
-field-requires : tie.Need-field-requires Inv-loop μ-loop
-field-requires c κs = omega (arith, laid-accepted _ (c .before .pre .0) .long)
+interactions-requires : tie.Need-interactions-requires Inv-loop μ-loop
+interactions-requires c κs = laid-accepted _ (c .before .pre .0) .long
 
 loop-holds : tie.Need-loop-holds Inv-loop μ-loop
-loop-holds c = (omega arith, c .field .ensures .0, mask-start _)
+loop-holds c = (omega arith, c .interactions .ensures .0, mask-start _)
 
 is-enabled-requires : tie.Need-is-enabled-requires Inv-loop μ-loop
 is-enabled-requires c κs =
@@ -71,7 +70,7 @@ enabled-mask-spec =
     (tie.spec
     Inv-loop
     μ-loop
-    field-requires
+    interactions-requires
     loop-holds
     is-enabled-requires
     with-bit-requires

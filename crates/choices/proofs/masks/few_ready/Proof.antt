@@ -1,7 +1,6 @@
-use Rattle.words.proofs.TestLaws.{every-next}
-use Rattle.choices.proofs.MaskLaws.{every-none, every-fails}
+use Rattle.words.proofs.Loops.{every-next}
 use Rattle.choices.specs.Choices.{portReady}
-use Rattle.semantics.proofs.Basics.{not-yes, not-no}
+use Rattle.semantics.proofs.Basics.{not-yes, not-no, every-none, every-fails}
 use Rattle.semantics.specs.Bytes.{every}
 use native.Mathlib.Omega.{arith}
 use Prim.Native.Nat.{ℕ, _≤_, _-_}
@@ -11,10 +10,10 @@ use Rattle.choices.proofs.masks.few_ready.Statement.{statement}
 use Rattle.choices.proofs.masks.few_ready.Tie as tie
 
 abbrev Inv-loop : tie.InvT-loop
-Inv-loop plan picks i count c₀ c = (c ≤ count) × (every c (portReady plan picks i) ≡ true)
+Inv-loop plan chosen i count c₀ c = (c ≤ count) × (every c (portReady plan chosen i) ≡ true)
 
 abbrev μ-loop : tie.MeasureT-loop
-μ-loop plan picks i count c₀ c = count - c
+μ-loop plan chosen i count c₀ c = count - c
 
 loop-holds : tie.Need-loop-holds Inv-loop μ-loop
 loop-holds c = (omega arith, every-none _)
@@ -25,7 +24,7 @@ port-ready-requires c κs = let s = c .before .before .before in (s .pre .0, (s 
 returns : tie.Need-returns Inv-loop μ-loop
 returns c =
     let a = c .before .before .before .before .before .args in
-    every-fails _ (portReady (a .plan .now) (a .picks .now) (a .i)) (c .before .before .before .loop .c) (omega arith) (sym (c .before .port-ready .ensures) ∙ not-yes _ (c .if1 .taken))
+    sym (every-fails _ (portReady (a .plan .now) (a .chosen .now) (a .i)) (c .before .before .before .loop .c) (omega arith) (sym (c .before .port-ready .ensures) ∙ not-yes _ (c .if1 .taken)))
 
 add-c : tie.Need-add-c Inv-loop μ-loop
 add-c c = omega arith
@@ -41,7 +40,7 @@ returns-2 c =
     let l = c .before .loop in
     let a = c .before .before .before .args in
     let e : l .c ≡ a .count = omega arith in
-    sym (l .inv .1) ∙ ap (λ (n : ℕ). every n (portReady (a .plan .now) (a .picks .now) (a .i))) e
+    sym (l .inv .1) ∙ ap (λ (n : ℕ). every n (portReady (a .plan .now) (a .chosen .now) (a .i))) e
 
 pub few-ready-spec : {M : Type 1} → statement M
 few-ready-spec =

@@ -1,13 +1,13 @@
 use Rattle.choices.proofs.MaskLaws.{enabled-not, enabled-guard}
-use Rattle.choices.proofs.PlanLaws.{interaction-guard-taken}
+use Rattle.code.proofs.TakenSpans.{interaction-guard-taken}
 use Rattle.code.specs.Taken.{Taken}
-use Rattle.lane.specs.Runs.{site}
 use Rattle.semantics.proofs.Basics.{not-yes, not-no}
-use Rattle.semantics.specs.Code.{guardHolds}
+use Rattle.semantics.specs.Code.{guardHolds, site}
 use Rattle.semantics.specs.Plan.{spanAt}
 use native.Mathlib.Omega.{arith}
 use Prim.Native.Nat.{ℕ, _+_}
 use mathlib.Core.Path.{ap, sym, subst, _∙_}
+use Rattle.layout.proofs.Sections.{laid-accepted}
 use borrow.Author.Needs.{needs}
 use Rattle.choices.proofs.masks.is_enabled.Statement.{statement}
 use Rattle.choices.proofs.masks.is_enabled.Tie as tie
@@ -19,11 +19,11 @@ returns : tie.Need-returns
 returns c =
     let s = c .before .before .before in
     let a = s .args in
-    enabled-not (a .plan .now) (site (a .locations .now) (a .ports .now) (a .values .now)) (a .picks .now) (a .i) (s .pre .0) (s .pre .1 .0) (s .pre .1 .1)
+    enabled-not (a .plan .now) (site (a .locations .now) (a .ports .now) (a .values .now)) (a .chosen .now) (a .i) (s .pre .0) (s .pre .1 .0) (s .pre .1 .1)
     (sym (c .before .parts-ready .ensures) ∙ not-yes _ (c .if1 .taken))
 
 interaction-at-requires : tie.Need-interaction-at-requires
-interaction-at-requires c κs = search needs
+interaction-at-requires c κs = let s = c .before .before .before in (laid-accepted _ (s .pre .0), s .pre .1 .0)
 
 add-guard-holds : tie.Need-add-guard-holds
 add-guard-holds c = search needs
@@ -41,7 +41,7 @@ returns-2 c =
     let a = s .args in
     let t = site (a .locations .now) (a .ports .now) (a .values .now) in
     c .guard-holds .ensures ∙ ap (λ (x : ℕ). guardHolds (a .plan .now) t (spanAt (a .plan .now) (x + 16))) (c .before .interaction-at .ensures .0)
-    ∙ enabled-guard (a .plan .now) t (a .picks .now) (a .i) (s .pre .0) (s .pre .1 .0) (s .pre .1 .1) (sym (o .parts-ready .ensures) ∙ not-no _ (c .before .before .if1 .left))
+    ∙ enabled-guard (a .plan .now) t (a .chosen .now) (a .i) (s .pre .0) (s .pre .1 .0) (s .pre .1 .1) (sym (o .parts-ready .ensures) ∙ not-no _ (c .before .before .if1 .left))
 
 pub is-enabled-spec : {M : Type 1} → statement M
 is-enabled-spec =

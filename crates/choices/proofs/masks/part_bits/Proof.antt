@@ -1,6 +1,7 @@
 use mathlib.Core.Path.{ap, _∙_}
 use Prim.Native.Nat.{ℕ, _+_, _<_, _^_}
 use native.Mathlib.Omega.{arith}
+use Rattle.layout.proofs.Sections.{laid-accepted}
 use borrow.Author.Needs.{needs}
 use Rattle.semantics.specs.Bytes.{u64}
 use Rattle.choices.proofs.PartLaws.{part-bit}
@@ -8,7 +9,7 @@ use Rattle.choices.proofs.masks.part_bits.Statement.{statement}
 use Rattle.choices.proofs.masks.part_bits.Tie as tie
 
 interaction-at-requires : tie.Need-interaction-at-requires
-interaction-at-requires c κs = let s = c .before in (s .pre .0, s .pre .1 .0)
+interaction-at-requires c κs = let s = c .before in (laid-accepted _ (s .pre .0), s .pre .1 .0)
 
 add-u64-at : tie.Need-add-u64-at
 add-u64-at c = search needs

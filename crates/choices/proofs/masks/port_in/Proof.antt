@@ -3,12 +3,13 @@ use lib.ListN.{getD}
 use Prim.Native.Nat.{ℕ, _+_, _<_}
 use mathlib.Core.Logic.{⊎-elim}
 use mathlib.Core.Path.{ap, _∙_, sym, subst}
+use Rattle.layout.proofs.Sections.{laid-accepted}
 use borrow.Author.Needs.{needs}
 use Rattle.choices.proofs.masks.port_in.Statement.{statement}
 use Rattle.choices.proofs.masks.port_in.Tie as tie
 
 interaction-at-requires : tie.Need-interaction-at-requires
-interaction-at-requires c κs = search needs
+interaction-at-requires c κs = let s = c .before in (laid-accepted _ (s .pre .0), s .pre .1 .0)
 
 add-wide : tie.Need-add-wide
 add-wide c = search needs

@@ -1,5 +1,5 @@
 use Rattle.choices.proofs.MaskLaws.{ready-apart, ready-part}
-use Rattle.code.proofs.Sections.{laid-accepted}
+use Rattle.layout.proofs.Sections.{laid-accepted}
 use native.Mathlib.Omega.{arith}
 use mathlib.Core.Path.{sym, _∙_}
 use borrow.Author.Needs.{needs}
@@ -10,7 +10,7 @@ port-in-requires : tie.Need-port-in-requires
 port-in-requires c κs = search needs
 
 returns : tie.Need-returns
-returns c = let a = c .before .before .before .args in ready-apart (a .plan .now) (a .picks .now) (a .i) (a .c) (sym (c .before .port-in .ensures .0) ∙ c .if1 .taken)
+returns c = let a = c .before .before .before .args in ready-apart (a .plan .now) (a .chosen .now) (a .i) (a .c) (sym (c .before .port-in .ensures .0) ∙ c .if1 .taken)
 
 mul-result : tie.Need-mul-result
 mul-result c = omega arith
@@ -24,14 +24,14 @@ mul-result-2 c = omega (arith, c .before .port-in .ensures .1 (c .if1 .left))
 element-copy-out-result : tie.Need-element-copy-out-result
 element-copy-out-result c = omega (arith, c .before .port-in .ensures .1 (c .if1 .left))
 
-u16-at-requires : tie.Need-u16-at-requires
-u16-at-requires c κs = omega (arith, laid-accepted _ (c .before .before .before .before .pre .0) .long)
+no-transition-requires : tie.Need-no-transition-requires
+no-transition-requires c κs = laid-accepted _ (c .before .before .before .before .pre .0) .long
 
 returns-2 : tie.Need-returns-2
 returns-2 c =
     let o = c .before .before .before in
     let a = o .before .before .args in
-    ready-part (a .plan .now) (a .picks .now) (a .i) (a .c) _ _ (o .port-in .ensures .0) (c .u16-at .ensures) (c .before .before .if1 .left)
+    ready-part (a .plan .now) (a .chosen .now) (a .i) (a .c) _ _ (o .port-in .ensures .0) (c .no-transition .ensures) (c .before .before .if1 .left)
 
 pub port-ready-spec : {M : Type 1} → statement M
 port-ready-spec =
@@ -43,5 +43,5 @@ port-ready-spec =
     add-result
     mul-result-2
     element-copy-out-result
-    u16-at-requires
+    no-transition-requires
     returns-2)

@@ -3,7 +3,7 @@ use Prim.Native.Nat.{ℕ}
 use native.Mathlib.Omega.{arith}
 use borrow.Author.Needs.{needs}
 use Rattle.arith.proofs.Signed32.{back32}
-use Rattle.code.proofs.MatchRest.{past}
+use Rattle.words.proofs.MatchRest.{past}
 use Rattle.code.proofs.WordsHeld.{fit-push, fit-extend, fit-load, fit-store, fit-located, fit-port, fit-operator, did-push, did-extend, did-load, did-located, did-port, did-operator, did-nothing}
 use Rattle.code.proofs.eval.read.Statement.{statement}
 use Rattle.code.proofs.eval.read.Tie as tie
@@ -58,8 +58,8 @@ push-requires-4 c κs =
     let s = k .before in
     (fit-port _ _ _ _ (k .match .keys6) (s .pre .0 .1) .1, s .pre .1)
 
-operators-requires : tie.Need-operators-requires
-operators-requires c κs = let k = c .before in fit-operator _ _ _ _ (k .match .keys7) (k .before .pre .0 .1)
+combine-requires : tie.Need-combine-requires
+combine-requires c κs = let k = c .before in fit-operator _ _ _ _ (k .match .keys7) (k .before .pre .0 .1)
 
 returns : tie.Need-returns
 returns c =
@@ -99,7 +99,7 @@ returns-6 c =
 returns-7 : tie.Need-returns-7
 returns-7 c =
     let k = c .before .before in
-    (did-operator _ _ _ _ _ _ (k .match .keys7) (c .operators .ensures), k .before .pre .1)
+    (did-operator _ _ _ _ _ _ (k .match .keys7) (c .combine .ensures), k .before .pre .1)
 
 returns-8 : tie.Need-returns-8
 returns-8 c = let k = c .before in (did-nothing _ _ _ _ (past 7 _ (k .match .rest)), k .before .pre .1)
@@ -123,7 +123,7 @@ read-spec =
     push-requires-3
     is-at-requires-2
     push-requires-4
-    operators-requires
+    combine-requires
     returns
     returns-2
     returns-3

@@ -3,7 +3,7 @@ use Prim.Native.Nat.{ℕ}
 use native.Mathlib.Omega.{arith}
 use borrow.Author.Needs.{needs}
 use Rattle.arith.proofs.Signed32.{back32}
-use Rattle.code.proofs.MatchRest.{past}
+use Rattle.words.proofs.MatchRest.{past}
 use Rattle.code.proofs.WordsHeld.{fit-push, fit-extend, fit-load, fit-store, fit-located, fit-port, fit-operator, did-push, did-extend, did-load, did-store, did-operator, did-nothing}
 use Rattle.code.proofs.eval.step.Statement.{statement}
 use Rattle.code.proofs.eval.step.Tie as tie
@@ -57,8 +57,8 @@ pop-requires c κs =
     let f = fit-store _ _ _ _ (k .match .keys4) (k .before .pre .0 .1) in
     (f .2, f .3)
 
-operators-requires : tie.Need-operators-requires
-operators-requires c κs = let k = c .before in fit-operator _ _ _ _ (k .match .keys7) (k .before .pre .0 .1)
+combine-requires : tie.Need-combine-requires
+combine-requires c κs = let k = c .before in fit-operator _ _ _ _ (k .match .keys7) (k .before .pre .0 .1)
 
 returns : tie.Need-returns
 returns c =
@@ -96,7 +96,7 @@ returns-6 c =
 returns-7 : tie.Need-returns-7
 returns-7 c =
     let k = c .before .before in
-    (λ s. did-operator _ _ _ _ _ _ (k .match .keys7) (c .operators .ensures), k .before .pre .1)
+    (λ s. did-operator _ _ _ _ _ _ (k .match .keys7) (c .combine .ensures), k .before .pre .1)
 
 returns-8 : tie.Need-returns-8
 returns-8 c = let k = c .before in (λ s. did-nothing _ _ _ _ (past 7 _ (k .match .rest)), k .before .pre .1)
@@ -120,7 +120,7 @@ step-spec =
     mul-t22
     element-set-from-values
     pop-requires
-    operators-requires
+    combine-requires
     returns
     returns-2
     returns-3

@@ -1,15 +1,17 @@
 use mathlib.Core.List.{[]}
 use mathlib.Core.Path.{_≡_, refl, sym, ap, _∙_}
-use Prim.Native.Nat.{_+_, _*_, _-_, _≤_}
+use Prim.Native.Nat.{_+_, _-_, _≤_, _<_}
 use native.Mathlib.Omega.{arith}
 use lib.IntN.{pos}
 use lib.ListN.{length}
 use borrow.Author.Needs.{needs}
 use Rattle.semantics.proofs.Spans.{acted-long}
-use Rattle.semantics.specs.Code.{State, Machine, ran, acted}
-use Rattle.code.specs.Held.{site, held, machine}
-use Rattle.code.proofs.Sections.{laid-accepted}
-use Rattle.code.proofs.TakenSpans.{word-inside}
+use Rattle.semantics.specs.Plan.{codeWords}
+use Rattle.semantics.specs.Code.{State, site, Machine, ran, acted}
+use Rattle.code.specs.Held.{held, machine}
+use Rattle.layout.specs.Laid.{Laid}
+use Rattle.layout.proofs.Sections.{laid-accepted}
+use Rattle.code.proofs.TakenSpans.{word-in}
 use Rattle.code.proofs.Turns.{decoded, turn-fits, turned}
 use Rattle.code.proofs.eval.update.Statement.{statement}
 use Rattle.code.proofs.eval.update.Tie as tie
@@ -21,33 +23,26 @@ Inv-loop plan values₀ start size base stack₀ m₀ i₀ values stack m i = (i
 abbrev μ-loop : tie.MeasureT-loop
 μ-loop plan values₀ start size base stack₀ m₀ i₀ values stack m i = size - i
 
--- the word lies in the slice
-inside : (c : tie.In-loop Inv-loop μ-loop)
-    → c .before .before .field .result + 2 * (c .before .before .before .before .args .start + c .before .loop .i) + 2
-    ≤ length (c .before .before .before .before .args .plan .now)
+-- the plan is laid out, and the word is one of its words
+inside : (c : tie.In-loop Inv-loop μ-loop) → let s = c .before .before .before .before in
+    Laid (s .args .plan .now) × (s .args .start + c .before .loop .i < codeWords (s .args .plan .now))
 inside c =
-    let f = c .before .before in
-    let s = f .before .before in
-    omega (arith, f .field .ensures .0, word-inside _ (laid-accepted _ (s .pre .0)) _ _ (s .pre .1 .0) (c .before .loop .i) (c .loop-test .taken))
+    let s = c .before .before .before .before in
+    let l = laid-accepted _ (s .pre .0) in
+    (l, word-in _ l _ _ (s .pre .1 .0) (c .before .loop .i) (c .loop-test .taken))
 
-field-requires : tie.Need-field-requires Inv-loop μ-loop
-field-requires c κs = omega (arith, laid-accepted _ (c .before .pre .0) .long)
+code-at-requires : tie.Need-code-at-requires Inv-loop μ-loop
+code-at-requires c κs = laid-accepted _ (c .before .pre .0)
 
 loop-holds : tie.Need-loop-holds Inv-loop μ-loop
 unfolding held ran
 loop-holds c = (omega arith, refl, λ s e. ap (λ vs. machine [] 0 (pos 0) vs) (sym e))
 
-add-u16-at : tie.Need-add-u16-at Inv-loop μ-loop
-add-u16-at c = omega (arith, inside c)
+add-word-from : tie.Need-add-word-from Inv-loop μ-loop
+add-word-from c = omega (arith, inside c .0 .words≤, inside c .1)
 
-mul-u16-at : tie.Need-mul-u16-at Inv-loop μ-loop
-mul-u16-at c = omega (arith, inside c)
-
-add-u16-at-2 : tie.Need-add-u16-at-2 Inv-loop μ-loop
-add-u16-at-2 c = omega (arith, inside c)
-
-u16-at-requires : tie.Need-u16-at-requires Inv-loop μ-loop
-u16-at-requires c κs = inside c
+word-from-requires : tie.Need-word-from-requires Inv-loop μ-loop
+word-from-requires c κs = (inside c .0, c .before .before .code-at .ensures .0, inside c .1)
 
 kind-requires : tie.Need-kind-requires Inv-loop μ-loop
 kind-requires c κs = search needs
@@ -66,7 +61,7 @@ step-requires c κs =
       (
         c .operand .ensures .1,
         turn-fits _ (laid-accepted _ (s .pre .0)) _ _ (s .pre .1 .0) (site [] [] (s .args .values .now)) (t .loop .i) _ _ _ _ _
-            (decoded _ _ _ _ _ _ (f .field .ensures .0) (u .u16-at .ensures) (d .kind .ensures .0) (c .operand .ensures .0))
+            (decoded _ _ _ _ _ (u .word-from .ensures) (d .kind .ensures .0) (c .operand .ensures .0))
             (t .loop .inv .2 (site [] [] (s .args .values .now)) refl) (o .loop-test .taken),
       ),
       t .loop .inv .1,
@@ -89,7 +84,7 @@ loop-again c =
       omega arith,
       c .step .ensures .1,
       λ s e. turned _ s _ _ _ _ _
-          (decoded _ _ _ _ _ _ (f .field .ensures .0) (u .u16-at .ensures) (d .kind .ensures .0) (n .operand .ensures .0))
+          (decoded _ _ _ _ _ (u .word-from .ensures) (d .kind .ensures .0) (n .operand .ensures .0))
           (t .loop .inv .2 s e) (c .step .ensures .0 s),
     )
 
@@ -112,12 +107,10 @@ update-spec =
     (tie.spec
     Inv-loop
     μ-loop
-    field-requires
+    code-at-requires
     loop-holds
-    add-u16-at
-    mul-u16-at
-    add-u16-at-2
-    u16-at-requires
+    add-word-from
+    word-from-requires
     kind-requires
     operand-requires
     step-requires

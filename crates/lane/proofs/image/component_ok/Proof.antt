@@ -1,30 +1,24 @@
 use Prim.Native.Nat.{_<_, _≤_}
 use native.Mathlib.Omega.{arith}
-use borrow.Author.Needs.{needs}
 use Rattle.semantics.proofs.Basics.{lt-ltb, le-ltb}
 use Rattle.semantics.specs.Image.{locationOk, lastPortOk}
 use Rattle.semantics.specs.Plan.{components}
-use Rattle.code.proofs.Sections.{laid-accepted}
+use Rattle.layout.proofs.Sections.{laid-accepted}
+use borrow.Author.Needs.{needs}
 use Rattle.lane.proofs.image.component_ok.Statement.{statement}
 use Rattle.lane.proofs.image.component_ok.Tie as tie
 
-field-requires : tie.Need-field-requires
-field-requires c κs = let h = laid-accepted _ (c .before .pre .0) in omega arith
+components-requires : tie.Need-components-requires
+components-requires c κs = laid-accepted _ (c .before .pre .0) .long
 
-field-requires-2 : tie.Need-field-requires-2
-field-requires-2 c κs = let h = laid-accepted _ (c .before .before .before .pre .0) in omega arith
-
-mul-at : tie.Need-mul-at
-mul-at c = search needs
-
-add-at : tie.Need-add-at
-add-at c = search needs
+component-at-requires : tie.Need-component-at-requires
+component-at-requires c κs = (laid-accepted _ (c .before .before .before .pre .0), omega arith)
 
 element-copy-out-result : tie.Need-element-copy-out-result
 element-copy-out-result c = search needs
 
 shared-slice-read-result : tie.Need-shared-slice-read-result
-shared-slice-read-result c = let h = laid-accepted _ (c .before .before .before .before .before .before .pre .0) in omega arith
+shared-slice-read-result c = search needs
 
 element-copy-out-result-2 : tie.Need-element-copy-out-result-2
 element-copy-out-result-2 c = search needs
@@ -36,7 +30,7 @@ add-result : tie.Need-add-result
 add-result c = search needs
 
 shared-slice-read-result-2 : tie.Need-shared-slice-read-result-2
-shared-slice-read-result-2 c = let h = laid-accepted _ (c .before .before .before .before .before .before .before .before .before .pre .0) in omega arith
+shared-slice-read-result-2 c = search needs
 
 element-copy-out-result-4 : tie.Need-element-copy-out-result-4
 element-copy-out-result-4 c = search needs
@@ -49,7 +43,7 @@ unfolding locationOk lastPortOk
 returns c = let f = c .before .before .before .before .before in
     let s = f .before .before .before .before in
     let t : s .args .c < components (s .args .plan .now) = omega arith in
-    rw (lt-ltb (s .args .c) (components (s .args .plan .now)) t, f .field2 .ensures .0)
+    rw (lt-ltb (s .args .c) (components (s .args .plan .now)) t, f .component-at .ensures .0)
 
 returns-2 : tie.Need-returns-2
 unfolding locationOk lastPortOk
@@ -61,10 +55,8 @@ pub component-ok-spec : {M : Type 1} → statement M
 component-ok-spec =
     tie.close
     (tie.spec
-    field-requires
-    field-requires-2
-    mul-at
-    add-at
+    components-requires
+    component-at-requires
     element-copy-out-result
     shared-slice-read-result
     element-copy-out-result-2

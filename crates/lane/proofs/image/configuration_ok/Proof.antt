@@ -1,43 +1,45 @@
-use mathlib.Core.Bool.{Bool, false, not, _&&_, and-assoc, and-true}
-use mathlib.Core.Path.{_≡_, ap₂, _∙_}
-use Prim.Native.Nat.{_<_, _≤_}
-use native.Mathlib.Omega.{arith}
-use lib.Dec.{eqb}
-use borrow.Author.Needs.{needs}
-use Rattle.semantics.proofs.Basics.{lt-ltb, le-ltb}
-use Rattle.semantics.specs.Image.{locationOk, lastPortOk, valueOk, configurationOk}
-use Rattle.semantics.specs.Move.{Configuration, good}
-use Rattle.semantics.specs.Plan.{Plan, oracleStates, verdict}
+use mathlib.Core.Bool.{Bool, true, false, _&&_, and-assoc, and-true}
+use mathlib.Core.Path.{_≡_, sym, ap₂, _∙_}
 use Rattle.semantics.specs.Bytes.{allOf, every}
-use Rattle.code.proofs.Sections.{laid-accepted}
-use Rattle.lane.specs.Runs.{site, placed, valued}
+use Rattle.semantics.specs.Plan.{Plan, maxComponents, maxVariables}
+use Rattle.semantics.specs.Code.{site, valued}
+use Rattle.semantics.specs.Move.{Configuration, oracleInRange, oracleGood, good}
+use Rattle.semantics.specs.Image.{locationOk, lastPortOk, valueOk, configurationOk}
+use Rattle.layout.proofs.Sections.{laid-accepted}
+use Rattle.lane.specs.Runs.{placed}
+use borrow.Author.Needs.{needs}
 use Rattle.lane.proofs.image.configuration_ok.Statement.{statement}
 use Rattle.lane.proofs.image.configuration_ok.Tie as tie
 
 -- the tests of a state read only what each is given
-joined : (p : Plan) (k : Configuration) {a b c : Bool} → k .oracle < oracleStates p → a ≡ not (eqb (verdict p (k .oracle)) 0)
-    → b ≡ (every 16 (locationOk p (placed (k .state .locations) (k .state .lastPorts))) && every 16 (lastPortOk p (placed (k .state .locations) (k .state .lastPorts))))
-    → c ≡ every 64 (valueOk p (valued (k .state .values))) → ((a && b) && c) ≡ configurationOk p k
+joined : (p : Plan) (k : Configuration) {a b c : Bool} → oracleInRange p (k .oracle) ≡ true → a ≡ oracleGood p (k .oracle)
+    → b ≡ (every maxComponents (locationOk p (placed (k .state .locations) (k .state .lastPorts)))
+    && every maxComponents (lastPortOk p (placed (k .state .locations) (k .state .lastPorts))))
+    → c ≡ every maxVariables (valueOk p (valued (k .state .values))) → ((a && b) && c) ≡ configurationOk p k
 unfolding configurationOk allOf good locationOk lastPortOk valueOk
-joined p k h a b c = rw (lt-ltb (k .oracle) (oracleStates p) h) (ap₂ _&&_ (ap₂ _&&_ a b) c ∙ simp (and-assoc, and-true))
+joined p k h a b c = rw h (ap₂ _&&_ (ap₂ _&&_ a b) c ∙ simp (and-assoc, and-true))
 
 -- an oracle state that the plan lacks
-far : (p : Plan) (k : Configuration) → oracleStates p ≤ k .oracle → false ≡ configurationOk p k
+far : (p : Plan) (k : Configuration) → oracleInRange p (k .oracle) ≡ false → false ≡ configurationOk p k
 unfolding configurationOk allOf
-far p k h = rw (le-ltb (k .oracle) (oracleStates p) h)
+far p k h = rw h
 
 -- the configuration that is tested
 abbrev tried : tie.Start → Configuration
 tried s = record { state = site (s .args .locations .now) (s .args .ports .now) (s .args .values .now); oracle = s .args .oracle }
 
-wide-requires : tie.Need-wide-requires
-wide-requires c κs = search needs
+-- what the first test says
+has : (c : tie.Then1) → oracleInRange (c .before .before .before .args .plan .now) (c .before .before .before .args .oracle) ≡ true
+has c = sym (c .before .in-range .ensures) ∙ c .if1 .taken
 
-field-requires : tie.Need-field-requires
-field-requires c κs = let h = laid-accepted _ (c .before .before .pre) in omega arith
+lacks : (c : tie.Else1) → oracleInRange (c .before .before .before .args .plan .now) (c .before .before .before .args .oracle) ≡ false
+lacks c = sym (c .before .in-range .ensures) ∙ c .if1 .left
+
+in-range-requires : tie.Need-in-range-requires
+in-range-requires c κs = laid-accepted _ (c .before .pre) .long
 
 good-requires : tie.Need-good-requires
-good-requires c κs = search needs
+good-requires c κs = (c .before .before .before .pre, has c)
 
 components-ok-requires : tie.Need-components-ok-requires
 components-ok-requires c κs = search needs
@@ -47,19 +49,17 @@ values-ok-requires c κs = search needs
 
 returns : tie.Need-returns
 returns c = let g = c .before .before in
-    let s = g .before .before .before .before .before in
-    joined (s .args .plan .now) (tried s) (omega arith) (g .good2 .ensures) (c .before .components-ok .ensures) (c .values-ok .ensures)
+    let s = g .before .before .before .before in
+    joined (s .args .plan .now) (tried s) (has (g .before)) (g .good2 .ensures) (c .before .components-ok .ensures) (c .values-ok .ensures)
 
 returns-2 : tie.Need-returns-2
-returns-2 c = let s = c .before .before .before .before in
-    far (s .args .plan .now) (tried s) (omega arith)
+returns-2 c = let s = c .before .before .before in far (s .args .plan .now) (tried s) (lacks c)
 
 pub configuration-ok-spec : {M : Type 1} → statement M
 configuration-ok-spec =
     tie.close
     (tie.spec
-    wide-requires
-    field-requires
+    in-range-requires
     good-requires
     components-ok-requires
     values-ok-requires

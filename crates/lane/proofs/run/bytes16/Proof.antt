@@ -3,15 +3,17 @@ use Prim.Native.Nat.{ℕ, _+_, _-_, _≤_}
 use native.Mathlib.Omega.{arith}
 use lib.ListN.{getD}
 use Rattle.semantics.specs.Bytes.{table}
-use Rattle.lane.proofs.Filling.{filled, filled-turn, filled-all, part-table}
+use Rattle.semantics.specs.Plan.{maxComponents}
+use Rattle.words.proofs.Loops.{filled, filled-turn, filled-all}
+use Rattle.semantics.proofs.Basics.{part-table}
 use Rattle.lane.proofs.run.bytes16.Statement.{statement}
 use Rattle.lane.proofs.run.bytes16.Tie as tie
 
 abbrev Inv-loop : tie.InvT-loop
-Inv-loop image at out₀ i₀ out i = (i ≤ 16) × (out ≡ filled 16 (λ (k : ℕ). getD image (at + k) 0) 0 i)
+Inv-loop image at out₀ i₀ out i = (i ≤ maxComponents) × (out ≡ filled maxComponents (λ (k : ℕ). getD image (at + k) 0) 0 i)
 
 abbrev μ-loop : tie.MeasureT-loop
-μ-loop image at out₀ i₀ out i = 16 - i
+μ-loop image at out₀ i₀ out i = maxComponents - i
 
 loop-holds : tie.Need-loop-holds Inv-loop μ-loop
 unfolding filled table
@@ -34,12 +36,12 @@ loop-less c = omega arith
 
 loop-again : tie.Need-loop-again Inv-loop μ-loop
 loop-again c = let l = c .before .before .loop in let s = c .before .before .before .args in
-    (omega arith, filled-turn 16 (λ (k : ℕ). getD (s .image .now) (s .at + k) 0) 0 (l .i) (omega arith) (l .inv .1) refl)
+    (omega arith, filled-turn maxComponents (λ (k : ℕ). getD (s .image .now) (s .at + k) 0) 0 (l .i) (omega arith) (l .inv .1) refl)
 
 returns : tie.Need-returns Inv-loop μ-loop
 returns c = let l = c .before .loop in let s = c .before .before .args in
-    let e : l .i ≡ 16 = omega arith in
-    l .inv .1 ∙ rw e (filled-all 16 (λ (k : ℕ). getD (s .image .now) (s .at + k) 0) 0 ∙ sym (part-table 0 (s .image .now) (s .at) 16 (omega arith)))
+    let e : l .i ≡ maxComponents = omega arith in
+    l .inv .1 ∙ rw e (filled-all maxComponents (λ (k : ℕ). getD (s .image .now) (s .at + k) 0) 0 ∙ sym (part-table 0 (s .image .now) (s .at) maxComponents (omega arith)))
 
 pub bytes16-spec : {M : Type 1} → statement M
 bytes16-spec =

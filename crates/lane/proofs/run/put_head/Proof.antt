@@ -1,33 +1,33 @@
-use mathlib.Core.Path.{refl, sym, ap, _∙_}
+use mathlib.Core.Path.{refl, ap, _∙_}
 use native.Mathlib.Omega.{arith}
-use borrow.Author.Needs.{needs}
+use Rattle.semantics.specs.Image.{head}
 use Rattle.words.proofs.SpliceLaws.{splice-next}
 use Rattle.words.specs.Splice.{splice}
-use Rattle.code.proofs.Sections.{laid-accepted}
-use Rattle.lane.proofs.Heads.{head-bytes}
+use Rattle.layout.proofs.Sections.{laid-accepted}
+use borrow.Author.Needs.{needs}
 use Rattle.lane.proofs.run.put_head.Statement.{statement}
 use Rattle.lane.proofs.run.put_head.Tie as tie
 
-shared-slice-read-t7 : tie.Need-shared-slice-read-t7
-shared-slice-read-t7 c = let h = laid-accepted _ (c .before .before .before .pre .0) in omega arith
+component-byte-requires : tie.Need-component-byte-requires
+component-byte-requires c κs = laid-accepted _ (c .before .before .pre .0)
 
-shared-slice-read-t9 : tie.Need-shared-slice-read-t9
-shared-slice-read-t9 c = let h = laid-accepted _ (c .before .before .before .before .pre .0) in omega arith
+variable-byte-requires : tie.Need-variable-byte-requires
+variable-byte-requires c κs = laid-accepted _ (c .before .before .before .pre .0)
 
-shared-slice-read-t11 : tie.Need-shared-slice-read-t11
-shared-slice-read-t11 c = let h = laid-accepted _ (c .before .before .before .before .before .pre .0) in omega arith
+interaction-byte-requires : tie.Need-interaction-byte-requires
+interaction-byte-requires c κs = laid-accepted _ (c .before .before .before .before .pre .0)
 
-shared-slice-read-t13 : tie.Need-shared-slice-read-t13
-shared-slice-read-t13 c = let h = laid-accepted _ (c .before .before .before .before .before .before .pre .0) in omega arith
+number-byte-requires : tie.Need-number-byte-requires
+number-byte-requires c κs = (laid-accepted _ (c .before .before .before .before .before .pre .0) .long, omega arith)
 
-shared-slice-read-t15 : tie.Need-shared-slice-read-t15
-shared-slice-read-t15 c = let h = laid-accepted _ (c .before .before .before .before .before .before .before .pre .0) in omega arith
+number-byte-requires-2 : tie.Need-number-byte-requires-2
+number-byte-requires-2 c κs = (laid-accepted _ (c .before .before .before .before .before .before .pre .0) .long, omega arith)
 
-shared-slice-read-t17 : tie.Need-shared-slice-read-t17
-shared-slice-read-t17 c = let h = laid-accepted _ (c .before .before .before .before .before .before .before .before .pre .0) in omega arith
+number-byte-requires-3 : tie.Need-number-byte-requires-3
+number-byte-requires-3 c κs = (laid-accepted _ (c .before .before .before .before .before .before .before .pre .0) .long, omega arith)
 
-shared-slice-read-t19 : tie.Need-shared-slice-read-t19
-shared-slice-read-t19 c = let h = laid-accepted _ (c .before .before .before .before .before .before .before .before .before .pre .0) in omega arith
+number-byte-requires-4 : tie.Need-number-byte-requires-4
+number-byte-requires-4 c κs = (laid-accepted _ (c .before .before .before .before .before .before .before .before .pre .0) .long, omega arith)
 
 slice-aggregate-put-bytes : tie.Need-slice-aggregate-put-bytes
 slice-aggregate-put-bytes c = search needs
@@ -45,24 +45,39 @@ same-length : tie.Need-same-length
 same-length c = search needs
 
 returns : tie.Need-returns
+unfolding head
 returns c = let b = c .before .before in
     let a = b .before .before .before .before .before in
-    let s = a .before .before .before .before .before .before .before .before .before .before .before .before in
-    let h = laid-accepted _ (s .pre .0) in
+    let n₄ = a .before .before .before in
+    let n₃ = n₄ .before in
+    let n₂ = n₃ .before in
+    let n₁ = n₂ .before in
+    let i = n₁ .before in
+    let v = i .before in
+    let m = v .before in
+    let s = m .before .before .before in
     splice-next (s .args .image .now) _ _ 4 _ _ refl (omega arith) (a .put-bytes .ensures) (b .put-bytes2 .ensures)
-    ∙ ap (splice (s .args .image .now) 0) (sym (head-bytes (s .args .plan .now) (s .args .oracle) h))
+    ∙ rw (
+      m .component-byte .ensures,
+      v .variable-byte .ensures,
+      i .interaction-byte .ensures,
+      n₁ .number-byte .ensures,
+      n₂ .number-byte2 .ensures,
+      n₃ .number-byte3 .ensures,
+      n₄ .number-byte4 .ensures,
+    )
 
 pub put-head-spec : {M : Type 1} → statement M
 put-head-spec =
     tie.close
     (tie.spec
-    shared-slice-read-t7
-    shared-slice-read-t9
-    shared-slice-read-t11
-    shared-slice-read-t13
-    shared-slice-read-t15
-    shared-slice-read-t17
-    shared-slice-read-t19
+    component-byte-requires
+    variable-byte-requires
+    interaction-byte-requires
+    number-byte-requires
+    number-byte-requires-2
+    number-byte-requires-3
+    number-byte-requires-4
     slice-aggregate-put-bytes
     put-bytes-requires
     slice-aggregate-put-bytes-2

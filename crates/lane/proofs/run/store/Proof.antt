@@ -1,19 +1,8 @@
-use mathlib.Core.Path.{_≡_}
-use lib.ListN.{length}
 use borrow.Author.Needs.{needs}
-use Rattle.lane.specs.Runs.{configurationIn}
+use Rattle.lane.specs.Runs.{lent}
 use Rattle.lane.proofs.Writing.{written}
 use Rattle.lane.proofs.run.store.Statement.{statement}
 use Rattle.lane.proofs.run.store.Tie as tie
-
-locations-16 : (s : tie.Start) → length (s .args .t3 .locations) ≡ 16
-locations-16 s = search needs
-
-ports-16 : (s : tie.Start) → length (s .args .t3 .«last_ports») ≡ 16
-ports-16 s = search needs
-
-values-64 : (s : tie.Start) → length (s .args .t3 .values) ≡ 64
-values-64 s = search needs
 
 put-head-requires : tie.Need-put-head-requires
 put-head-requires c κs = search needs
@@ -28,23 +17,23 @@ put-bytes-requires-2 : tie.Need-put-bytes-requires-2
 put-bytes-requires-2 c κs = search needs
 
 put-values-requires : tie.Need-put-values-requires
-put-values-requires c κs = let q = c .before .before .before .before .before in
-    let l = q .before .before .before .before .before .before .before in
-    let m = l .before .before .before .before .before .before .before in
-    let s = m .before .before .before .before .before .before .before .before in
-    (search needs, values-64 s)
+put-values-requires c κs = search needs
 
 same-length : tie.Need-same-length
 same-length c = search needs
 
 returns : tie.Need-returns
-returns c = let v = c .before .before in
-    let q = v .before .before .before .before .before .before in
-    let l = q .before .before .before .before .before .before .before in
-    let m = l .before .before .before .before .before .before .before in
+returns c =
+    let v = c .before .before in
+    let q = v .before .before .before .before in
+    let l = q .before .before .before .before .before in
+    let m = l .before .before .before .before .before in
     let h = m .before .before .before .before in
     let s = h .before .before .before .before in
-    written (s .args .plan .now) (configurationIn (s .args .t3)) (s .args .crossed) (s .args .image .now) (s .pre .1) (locations-16 s) (ports-16 s) (values-64 s)
+    let a = s .args in
+    let z = s .pre .1 .1 in
+    written (a .plan .now) (lent (a .locations .now) (a .ports .now) (a .values .now) (a .oracle)) (a .crossed) (a .image .now) (s .pre .1 .0)
+    (z .locations-long) (z .ports-long) (z .values-long)
     (h .put-head .ensures) (m .put-u64 .ensures) (l .put-bytes .ensures) (q .put-bytes2 .ensures) (v .put-values .ensures)
 
 pub store-spec : {M : Type 1} → statement M

@@ -2,22 +2,22 @@ use native.Mathlib.Omega.{arith}
 use lib.ListN.{length}
 use Prim.Native.Nat.{ℕ, _-_, _≤_}
 use mathlib.Core.Path.{_≡_, refl, ap, _∙_}
-use Rattle.code.proofs.Sections.{laid-accepted}
+use Rattle.layout.proofs.Sections.{laid-accepted}
 use Rattle.semantics.specs.Plan.{components}
-use Rattle.lane.specs.Runs.{site}
+use Rattle.semantics.specs.Code.{site}
 use Rattle.moves.specs.Parts.{actsBelow}
 use Rattle.moves.proofs.FireLaws.{acts-next}
 use Rattle.moves.proofs.fire.acts.Statement.{statement}
 use Rattle.moves.proofs.fire.acts.Tie as tie
 
 abbrev Inv-loop : tie.InvT-loop
-Inv-loop plan locations ports values₀ picks i count c₀ values c = (c ≤ count) × (length values ≡ 64) × (site locations ports values ≡ actsBelow plan picks i c (site locations ports values₀))
+Inv-loop plan locations ports values₀ chosen i count c₀ values c = (c ≤ count) × (length values ≡ 64) × (site locations ports values ≡ actsBelow plan chosen i c (site locations ports values₀))
 
 abbrev μ-loop : tie.MeasureT-loop
-μ-loop plan locations ports values₀ picks i count c₀ values c = count - c
+μ-loop plan locations ports values₀ chosen i count c₀ values c = count - c
 
-field-requires : tie.Need-field-requires Inv-loop μ-loop
-field-requires c κs = omega (arith, laid-accepted _ (c .before .pre .0) .long)
+components-requires : tie.Need-components-requires Inv-loop μ-loop
+components-requires c κs = omega (arith, laid-accepted _ (c .before .pre .0) .long)
 
 loop-holds : tie.Need-loop-holds Inv-loop μ-loop
 unfolding actsBelow
@@ -39,14 +39,14 @@ loop-again : tie.Need-loop-again Inv-loop μ-loop
 loop-again c =
     let l = c .before .before .before in
     let a = l .before .before .before .args in
-    (omega arith, c .act-part .ensures .1, acts-next (a .plan .now) (a .picks .now) (a .i) (l .loop .c) (site (a .locations .now) (a .ports .now) (a .values .now)) (site (a .locations .now) (a .ports .now) (l .loop .values)) _ (l .loop .inv .2) (c .act-part .ensures .0))
+    (omega arith, c .act-part .ensures .1, acts-next (a .plan .now) (a .chosen .now) (a .i) (l .loop .c) (site (a .locations .now) (a .ports .now) (a .values .now)) (site (a .locations .now) (a .ports .now) (l .loop .values)) _ (l .loop .inv .2) (c .act-part .ensures .0))
 
 returns : tie.Need-returns Inv-loop μ-loop
 returns c =
     let l = c .before in
     let a = l .before .before .before .args in
     let e : l .loop .c ≡ components (a .plan .now) = omega arith in
-    (l .loop .inv .2 ∙ ap (λ (n : ℕ). actsBelow (a .plan .now) (a .picks .now) (a .i) n (site (a .locations .now) (a .ports .now) (a .values .now))) e, l .loop .inv .1)
+    (l .loop .inv .2 ∙ ap (λ (n : ℕ). actsBelow (a .plan .now) (a .chosen .now) (a .i) n (site (a .locations .now) (a .ports .now) (a .values .now))) e, l .loop .inv .1)
 
 pub acts-spec : {M : Type 1} → statement M
 acts-spec =
@@ -54,7 +54,7 @@ acts-spec =
     (tie.spec
     Inv-loop
     μ-loop
-    field-requires
+    components-requires
     loop-holds
     act-part-requires
     add-c

@@ -1,21 +1,21 @@
 use native.Mathlib.Omega.{arith}
 use Prim.Native.Nat.{_-_, _≤_}
 use mathlib.Core.Path.{_≡_, refl, ap, _∙_}
-use Rattle.code.proofs.Sections.{laid-accepted}
+use Rattle.layout.proofs.Sections.{laid-accepted}
 use Rattle.semantics.specs.Plan.{components, destination, portIn, takesPart}
-use Rattle.moves.specs.Parts.{picked, setBelow}
+use Rattle.moves.specs.Parts.{chosenBy, setBelow}
 use Rattle.moves.proofs.FireLaws.{set-below-next}
 use Rattle.moves.proofs.fire.arrive.Statement.{statement}
 use Rattle.moves.proofs.fire.arrive.Tie as tie
 
 abbrev Inv-loop : tie.InvT-loop
-Inv-loop plan locations₀ ports₀ picks i count c₀ locations ports c = (c ≤ count) × (locations ≡ setBelow (takesPart plan i) (λ k. destination plan (picked plan picks i k)) locations₀ c) × (ports ≡ setBelow (takesPart plan i) (portIn plan i) ports₀ c)
+Inv-loop plan locations₀ ports₀ chosen i count c₀ locations ports c = (c ≤ count) × (locations ≡ setBelow (takesPart plan i) (λ k. destination plan (chosenBy plan chosen i k)) locations₀ c) × (ports ≡ setBelow (takesPart plan i) (portIn plan i) ports₀ c)
 
 abbrev μ-loop : tie.MeasureT-loop
-μ-loop plan locations₀ ports₀ picks i count c₀ locations ports c = count - c
+μ-loop plan locations₀ ports₀ chosen i count c₀ locations ports c = count - c
 
-field-requires : tie.Need-field-requires Inv-loop μ-loop
-field-requires c κs = omega (arith, laid-accepted _ (c .before .pre .0) .long)
+components-requires : tie.Need-components-requires Inv-loop μ-loop
+components-requires c κs = omega (arith, laid-accepted _ (c .before .pre .0) .long)
 
 loop-holds : tie.Need-loop-holds Inv-loop μ-loop
 unfolding setBelow
@@ -39,7 +39,7 @@ loop-again c =
     let a = l .before .before .before .args in
     let p = a .plan .now in (
       omega arith,
-      set-below-next (takesPart p (a .i)) (λ k. destination p (picked p (a .picks .now) (a .i) k)) (a .locations .now) (l .loop .locations) _ (l .loop .c) (l .loop .inv .1) (c .arrive-part .ensures .0),
+      set-below-next (takesPart p (a .i)) (λ k. destination p (chosenBy p (a .chosen .now) (a .i) k)) (a .locations .now) (l .loop .locations) _ (l .loop .c) (l .loop .inv .1) (c .arrive-part .ensures .0),
       set-below-next (takesPart p (a .i)) (portIn p (a .i)) (a .ports .now) (l .loop .ports) _ (l .loop .c) (l .loop .inv .2) (c .arrive-part .ensures .1),
     )
 
@@ -49,7 +49,7 @@ returns c =
     let a = l .before .before .before .args in
     let p = a .plan .now in
     let e : l .loop .c ≡ components p = omega arith in (
-      l .loop .inv .1 ∙ ap (setBelow (takesPart p (a .i)) (λ k. destination p (picked p (a .picks .now) (a .i) k)) (a .locations .now)) e,
+      l .loop .inv .1 ∙ ap (setBelow (takesPart p (a .i)) (λ k. destination p (chosenBy p (a .chosen .now) (a .i) k)) (a .locations .now)) e,
       l .loop .inv .2 ∙ ap (setBelow (takesPart p (a .i)) (portIn p (a .i)) (a .ports .now)) e,
     )
 
@@ -59,7 +59,7 @@ arrive-spec =
     (tie.spec
     Inv-loop
     μ-loop
-    field-requires
+    components-requires
     loop-holds
     arrive-part-requires
     add-c

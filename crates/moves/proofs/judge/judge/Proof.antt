@@ -1,6 +1,6 @@
 use Prim.Native.Nat.{ℕ}
-use mathlib.Core.Path.{_≡_, ap, _∙_}
-use Rattle.lane.specs.Runs.{stateOf, runOf}
+use mathlib.Core.Path.{ap, _∙_}
+use Rattle.semantics.specs.Code.{State, site}
 use Rattle.semantics.specs.Move.{letter, judged}
 use Rattle.semantics.specs.Plan.{next}
 use borrow.Author.Needs.{needs}
@@ -10,17 +10,16 @@ use Rattle.moves.proofs.judge.judge.Tie as tie
 letter-requires : tie.Need-letter-requires
 letter-requires c κs = search needs
 
-next-of-requires : tie.Need-next-of-requires
-next-of-requires c κs = search needs
+next-requires : tie.Need-next-requires
+next-requires c κs = search needs
 
 returns : tie.Need-returns
 unfolding judged
 returns c =
-    let a = c .before .before .before .before .before .before .before .before .before .args in
-    let r = a .t2 in
-    let p = a .plan .now in
-    let e : c .next-of .result ≡ next p (r .oracle) (letter p (stateOf r)) = c .next-of .ensures .0 ∙ ap (next p (r .oracle)) (c .before .letter .ensures .0) in
-    (ap (λ (x : ℕ). runOf (record { state = stateOf r; oracle = x }) (r .marks)) e, c .next-of .ensures .1)
+    let l = c .before in
+    let a = l .before .before .args in
+    let s : State = site (a .locations .now) (a .ports .now) (a .values .now) in
+    (ap (λ (x : ℕ). record { state = s; oracle = x }) (c .next .ensures .0 ∙ ap (next (a .plan .now) (a .oracle)) (l .letter .ensures .0)), c .next .ensures .1)
 
 pub judge-spec : {M : Type 1} → statement M
-judge-spec = tie.close (tie.spec letter-requires next-of-requires returns)
+judge-spec = tie.close (tie.spec letter-requires next-requires returns)

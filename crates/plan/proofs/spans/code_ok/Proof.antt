@@ -1,9 +1,8 @@
 use mathlib.Core.Path.{refl, sym, _∙_}
 use Rattle.semantics.specs.Rules.{codeOk}
-use Rattle.semantics.proofs.Basics.{not-yes, not-no}
-use Rattle.tables.proofs.Conjunctions.{first-fails, first-passed, second-says}
-use Rattle.plan.proofs.NameLaws.{zeros-at}
+use Rattle.semantics.proofs.Basics.{not-yes, not-no, zeros-at}
 use borrow.Author.Needs.{needs}
+use Rattle.words.proofs.TestLaws.{first-fails, first-passed, second-says}
 use Rattle.plan.proofs.spans.code_ok.Statement.{statement}
 use Rattle.plan.proofs.spans.code_ok.Tie as tie
 

@@ -1,5 +1,6 @@
-use mathlib.Core.Path.{_≡_, sym, ap, _∙_, subst}
-use Prim.Native.Nat.{ℕ, _<_}
+use mathlib.Core.Path.{_≡_, ap, _∙_}
+use Prim.Native.Nat.{ℕ}
+use native.Mathlib.Omega.{arith}
 use lib.ListN.{getD}
 use Rattle.semantics.specs.Bytes.{bit}
 use Rattle.semantics.specs.Plan.{componentOf}
@@ -9,9 +10,7 @@ use Rattle.plan.proofs.spans.own_mask.Tie as tie
 
 -- the component that was read is the transition's
 component-is : (c : tie.After-wide) → c .wide .result ≡ componentOf (c .before .before .before .args .plan .now) (c .before .before .before .args .t)
-component-is c =
-    let s = c .before .before .before in
-    c .wide .ensures .0 ∙ ap (λ (x : ℕ). getD (s .args .plan .now) x 0) (s .pre .1 .1)
+component-is c = cc
 
 shared-slice-read-wide : tie.Need-shared-slice-read-wide
 shared-slice-read-wide c = search needs
@@ -23,7 +22,7 @@ mul-result : tie.Need-mul-result
 mul-result c = search needs
 
 element-copy-out-result : tie.Need-element-copy-out-result
-element-copy-out-result c = subst (λ (x : ℕ). x < 16) (sym (component-is c)) (c .before .before .before .pre .0 .2)
+element-copy-out-result c = omega (arith, component-is c)
 
 returns : tie.Need-returns
 returns c =

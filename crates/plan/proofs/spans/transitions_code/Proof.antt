@@ -1,12 +1,13 @@
-use mathlib.Core.Path.{_≡_, refl, sym, _∙_, subst}
-use Prim.Native.Nat.{ℕ, _-_, _≤_, _<_}
+use mathlib.Core.Path.{_≡_, refl, sym, _∙_}
+use Prim.Native.Nat.{_-_, _≤_, _<_}
 use native.Mathlib.Omega.{arith}
 use mathlib.Core.Bool.{true}
 use Rattle.semantics.specs.Bytes.{every}
 use Rattle.semantics.specs.Plan.{components, transitions, componentOf}
 use Rattle.semantics.specs.Rules.{transitionOk, transitionCode}
-use Rattle.semantics.proofs.Basics.{not-yes, not-no, each, ltb-true, every-at}
-use Rattle.words.proofs.TestLaws.{every-fails, every-next}
+use Rattle.semantics.proofs.Basics.{not-yes, not-no, each, ltb-true, every-at, every-fails}
+use Rattle.words.proofs.Loops.{every-next, every-done}
+use borrow.Author.Needs.{needs}
 use Rattle.plan.proofs.spans.transitions_code.Statement.{statement}
 use Rattle.plan.proofs.spans.transitions_code.Tie as tie
 
@@ -16,52 +17,43 @@ Inv-loop plan owned count t₀ t = (t ≤ transitions plan) × (every t (transit
 abbrev μ-loop : tie.MeasureT-loop
 μ-loop plan owned count t₀ t = count - t
 
-low : {a b : ℕ} → b ≤ 16 → a < b → a < 16
-low h l = omega arith
-
-field-requires : tie.Need-field-requires Inv-loop μ-loop
-field-requires c κs = omega arith
+transitions-requires : tie.Need-transitions-requires Inv-loop μ-loop
+transitions-requires c κs = search needs
 
 loop-holds : tie.Need-loop-holds Inv-loop μ-loop
 unfolding every
 loop-holds c = (omega arith, refl)
 
+-- 6 was kept: the component is one that the plan has
 transition-code-requires : tie.Need-transition-code-requires Inv-loop μ-loop
 unfolding transitionOk
 transition-code-requires c κs =
     let l = c .before in
     let s = l .before .before .before in
-    let lt : l .loop .t < transitions (l .before .before .before .args .plan .now) = subst (λ (x : ℕ). l .loop .t < x) (l .before .field .ensures .0) (c .loop-test .taken) in
-    let o = each _ (every-at (transitions (s .args .plan .now)) (transitionOk (s .args .plan .now)) (s .pre .1 .0) (l .loop .t) lt) in
-    let w : componentOf (s .args .plan .now) (l .loop .t) < components (s .args .plan .now) = ltb-true _ _ (o .0) in
-    (s .pre .0, (lt, low (s .pre .0 .components≤) w, s .pre .1 .1))
+    let p = s .args .plan .now in
+    let lt : l .loop .t < transitions p = omega arith in
+    let (own, _) = each _ (every-at (transitions p) (transitionOk p) (s .pre .1 .0) (l .loop .t) lt) in
+    let w : componentOf p (l .loop .t) < components p = ltb-true _ _ own in
+    (s .pre .0, (lt, omega arith, s .pre .1 .1))
 
 returns : tie.Need-returns Inv-loop μ-loop
 returns c =
-    let l = c .before .before .before in
-    let s = l .before .before .before in
-    let lt : l .loop .t < transitions (l .before .before .before .args .plan .now) = subst (λ (x : ℕ). l .loop .t < x) (l .before .field .ensures .0) (c .before .before .loop-test .taken) in
-    sym (every-fails (transitions (s .args .plan .now)) (transitionCode (s .args .plan .now)) (l .loop .t) lt (sym (c .before .transition-code .ensures) ∙ not-yes _ (c .if1 .taken)))
+    let l = c .before .before .before .loop in
+    sym (every-fails _ _ (l .t) (omega arith) (sym (c .before .transition-code .ensures) ∙ not-yes _ (c .if1 .taken)))
 
 add-t : tie.Need-add-t Inv-loop μ-loop
-add-t c = omega arith
+add-t c = search needs
 
 loop-less : tie.Need-loop-less Inv-loop μ-loop
-loop-less c = omega arith
+loop-less c = search needs
 
 loop-again : tie.Need-loop-again Inv-loop μ-loop
 loop-again c =
-    let l = c .before .before .before in
-    let s = l .before .before .before in
-    let lt : l .loop .t < transitions (l .before .before .before .args .plan .now) = subst (λ (x : ℕ). l .loop .t < x) (l .before .field .ensures .0) (c .before .before .loop-test .taken) in
-    (omega arith, every-next (l .loop .t) (transitionCode (s .args .plan .now)) (l .loop .inv .1) (sym (c .before .transition-code .ensures) ∙ not-no _ (c .if1 .left)))
+    let l = c .before .before .before .loop in
+    (omega arith, every-next _ _ (l .inv .1) (sym (c .before .transition-code .ensures) ∙ not-no _ (c .if1 .left)))
 
 returns-2 : tie.Need-returns-2 Inv-loop μ-loop
-returns-2 c =
-    let l = c .before in
-    let s = l .before .before .before in
-    let e : l .loop .t ≡ transitions (s .args .plan .now) = omega arith in
-    sym (subst (λ (x : ℕ). every x (transitionCode (s .args .plan .now)) ≡ true) e (l .loop .inv .1))
+returns-2 c = let l = c .before .loop in sym (every-done _ _ _ (l .inv .1) (l .inv .0) (omega arith))
 
 pub transitions-code-spec : {M : Type 1} → statement M
 transitions-code-spec =
@@ -69,7 +61,7 @@ transitions-code-spec =
     (tie.spec
     Inv-loop
     μ-loop
-    field-requires
+    transitions-requires
     loop-holds
     transition-code-requires
     returns

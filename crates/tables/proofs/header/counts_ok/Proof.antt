@@ -1,42 +1,42 @@
 use mathlib.Core.Path.{sym, _∙_}
 use borrow.Author.Needs.{needs}
 use Rattle.semantics.specs.Rules.{countsOk}
-use Rattle.tables.proofs.Conjunctions.{tests}
+use Rattle.words.proofs.TestLaws.{tests}
 use Rattle.tables.proofs.header.counts_ok.Statement.{statement}
 use Rattle.tables.proofs.header.counts_ok.Tie as tie
 
-field-requires : tie.Need-field-requires
-field-requires c κs = search needs
+oracle-states-requires : tie.Need-oracle-states-requires
+oracle-states-requires c κs = search needs
 
-field-requires-2 : tie.Need-field-requires-2
-field-requires-2 c κs = search needs
+components-requires : tie.Need-components-requires
+components-requires c κs = search needs
 
 ranged-requires : tie.Need-ranged-requires
 ranged-requires c κs = search needs
 
-field-requires-3 : tie.Need-field-requires-3
-field-requires-3 c κs = search needs
+variables-requires : tie.Need-variables-requires
+variables-requires c κs = search needs
 
-field-requires-4 : tie.Need-field-requires-4
-field-requires-4 c κs = search needs
+transitions-requires : tie.Need-transitions-requires
+transitions-requires c κs = search needs
 
-field-requires-5 : tie.Need-field-requires-5
-field-requires-5 c κs = search needs
+interactions-requires : tie.Need-interactions-requires
+interactions-requires c κs = search needs
 
 ranged-requires-2 : tie.Need-ranged-requires-2
 ranged-requires-2 c κs = search needs
 
-field-requires-6 : tie.Need-field-requires-6
-field-requires-6 c κs = search needs
+propositions-requires : tie.Need-propositions-requires
+propositions-requires c κs = search needs
 
 ranged-requires-3 : tie.Need-ranged-requires-3
 ranged-requires-3 c κs = search needs
 
-field-requires-7 : tie.Need-field-requires-7
-field-requires-7 c κs = search needs
+first-oracle-requires : tie.Need-first-oracle-requires
+first-oracle-requires c κs = search needs
 
-field-requires-8 : tie.Need-field-requires-8
-field-requires-8 c κs = search needs
+code-words-requires : tie.Need-code-words-requires
+code-words-requires c κs = search needs
 
 returns : tie.Need-returns
 unfolding countsOk
@@ -46,15 +46,15 @@ pub counts-ok-spec : {M : Type 1} → statement M
 counts-ok-spec =
     tie.close
     (tie.spec
-    field-requires
-    field-requires-2
+    oracle-states-requires
+    components-requires
     ranged-requires
-    field-requires-3
-    field-requires-4
-    field-requires-5
+    variables-requires
+    transitions-requires
+    interactions-requires
     ranged-requires-2
-    field-requires-6
+    propositions-requires
     ranged-requires-3
-    field-requires-7
-    field-requires-8
+    first-oracle-requires
+    code-words-requires
     returns)

@@ -5,7 +5,7 @@ use lib.ListN.{length}
 use borrow.Author.Needs.{needs}
 use Rattle.semantics.specs.Rules.{headOk}
 use Rattle.semantics.proofs.Basics.{le-leb, lt-leb}
-use Rattle.tables.proofs.Conjunctions.{first-fails, first-passed, one-more}
+use Rattle.words.proofs.TestLaws.{first-fails, first-passed, one-more}
 use Rattle.tables.proofs.header.head_ok.Statement.{statement}
 use Rattle.tables.proofs.header.head_ok.Tie as tie
 

@@ -1,6 +1,6 @@
 use mathlib.Core.Path.{sym}
 use Rattle.semantics.specs.Rules.{within}
-use Rattle.tables.proofs.Conjunctions.{tests}
+use Rattle.words.proofs.TestLaws.{tests}
 use Rattle.tables.proofs.header.ranged.Statement.{statement}
 use Rattle.tables.proofs.header.ranged.Tie as tie
 

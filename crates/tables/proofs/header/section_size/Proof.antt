@@ -1,98 +1,105 @@
 use mathlib.Core.Path.{refl}
-use native.Mathlib.Nat.{le-of-lt}
+use Prim.Native.Nat.{ℕ, _+_, _*_, _≤_, _<_}
+use native.Mathlib.Nat.{le-of-lt, mul-le-mul}
 use native.Mathlib.Omega.{arith}
 use borrow.Author.Needs.{needs}
 use Rattle.semantics.specs.Plan.{sectionSize}
-use Rattle.tables.proofs.OracleRows.{rows-le}
-use Rattle.code.proofs.MatchRest.{past}
+use Rattle.words.proofs.MatchRest.{past}
 use Rattle.tables.proofs.header.section_size.Statement.{statement}
 use Rattle.tables.proofs.header.section_size.Tie as tie
 
-field-requires : tie.Need-field-requires
-field-requires c κs = search needs
+-- the rows of the oracle, before its states are known to be few
+rows-le : {width states : ℕ} → width ≤ 16 → states < 65536 → (1 + width) * states ≤ 1114112
+rows-le {width} {states} h l = mul-le-mul {n₁ = 1 + width} {m₁ = states} {n₂ = 17} {m₂ = 65536} (omega arith) (le-of-lt l)
+
+components-requires : tie.Need-components-requires
+components-requires c κs = search needs
 
 mul-result : tie.Need-mul-result
 mul-result c = search needs
 
-field-requires-2 : tie.Need-field-requires-2
-field-requires-2 c κs = search needs
+variables-requires : tie.Need-variables-requires
+variables-requires c κs = search needs
 
 mul-result-2 : tie.Need-mul-result-2
 mul-result-2 c = search needs
 
-field-requires-3 : tie.Need-field-requires-3
-field-requires-3 c κs = search needs
+transitions-requires : tie.Need-transitions-requires
+transitions-requires c κs = search needs
 
 mul-result-3 : tie.Need-mul-result-3
 mul-result-3 c = search needs
 
-field-requires-4 : tie.Need-field-requires-4
-field-requires-4 c κs = search needs
+interactions-requires : tie.Need-interactions-requires
+interactions-requires c κs = search needs
 
 mul-result-4 : tie.Need-mul-result-4
 mul-result-4 c = search needs
 
-field-requires-5 : tie.Need-field-requires-5
-field-requires-5 c κs = search needs
+interactions-requires-2 : tie.Need-interactions-requires-2
+interactions-requires-2 c κs = search needs
 
 mul-result-5 : tie.Need-mul-result-5
 mul-result-5 c = search needs
 
-field-requires-6 : tie.Need-field-requires-6
-field-requires-6 c κs = search needs
+propositions-requires : tie.Need-propositions-requires
+propositions-requires c κs = search needs
 
 mul-result-6 : tie.Need-mul-result-6
 mul-result-6 c = search needs
 
-letter-count-requires : tie.Need-letter-count-requires
-letter-count-requires c κs = search needs
+letters-requires : tie.Need-letters-requires
+letters-requires c κs = search needs
 
 add-result : tie.Need-add-result
 add-result c = search needs
 
-field-requires-7 : tie.Need-field-requires-7
-field-requires-7 c κs = search needs
+oracle-states-requires : tie.Need-oracle-states-requires
+oracle-states-requires c κs = search needs
 
 mul-result-7 : tie.Need-mul-result-7
-mul-result-7 c = omega (arith, rows-le 65536 (c .before .letter-count .ensures .1) (le-of-lt (c .field7 .ensures .1)))
+mul-result-7 c = omega (arith, rows-le (c .before .letters .ensures .1) (c .oracle-states .ensures .1))
 
-field-requires-8 : tie.Need-field-requires-8
-field-requires-8 c κs = search needs
+code-words-requires : tie.Need-code-words-requires
+code-words-requires c κs = search needs
 
 mul-result-8 : tie.Need-mul-result-8
 mul-result-8 c = search needs
 
 returns : tie.Need-returns
 unfolding sectionSize
-returns c = (rw (c .before .match .keys1, c .field .ensures .0) refl, omega arith)
+returns c = (rw (c .before .match .keys1, c .components .ensures .0) refl, omega arith)
 
 returns-2 : tie.Need-returns-2
 unfolding sectionSize
-returns-2 c = (rw (c .before .match .keys2, c .field2 .ensures .0) refl, omega arith)
+returns-2 c = (rw (c .before .match .keys2, c .variables .ensures .0) refl, omega arith)
 
 returns-3 : tie.Need-returns-3
 unfolding sectionSize
-returns-3 c = (rw (c .before .match .keys3, c .field3 .ensures .0) refl, omega arith)
+returns-3 c = (rw (c .before .match .keys3, c .transitions .ensures .0) refl, omega arith)
 
 returns-4 : tie.Need-returns-4
 unfolding sectionSize
-returns-4 c = (rw (c .before .match .keys4, c .field4 .ensures .0) refl, omega arith)
+returns-4 c = (rw (c .before .match .keys4, c .interactions .ensures .0) refl, omega arith)
 
 returns-5 : tie.Need-returns-5
 unfolding sectionSize
-returns-5 c = (rw (c .before .match .keys5, c .field5 .ensures .0) refl, omega arith)
+returns-5 c = (rw (c .before .match .keys5, c .interactions2 .ensures .0) refl, omega arith)
 
 returns-6 : tie.Need-returns-6
 unfolding sectionSize
-returns-6 c = (rw (c .before .match .keys6, c .field6 .ensures .0) refl, omega arith)
+returns-6 c = (rw (c .before .match .keys6, c .propositions .ensures .0) refl, omega arith)
 
 returns-7 : tie.Need-returns-7
 unfolding sectionSize
-returns-7 c = (rw (c .before .before .match .keys7, c .before .letter-count .ensures .0, c .field7 .ensures .0) refl, omega (arith, rows-le 65536 (c .before .letter-count .ensures .1) (le-of-lt (c .field7 .ensures .1))))
+returns-7 c =
+    let (count, few) = c .before .letters .ensures in
+    let (states, low) = c .oracle-states .ensures in
+    (rw (c .before .before .match .keys7, count, states) refl, omega (arith, rows-le few low))
 
 returns-8 : tie.Need-returns-8
 unfolding sectionSize
-returns-8 c = (rw (c .before .match .keys8, c .field8 .ensures .0) refl, omega arith)
+returns-8 c = (rw (c .before .match .keys8, c .code-words .ensures .0) refl, omega arith)
 
 returns-9 : tie.Need-returns-9
 returns-9 c = absurd (omega (arith, past 8 (c .before .before .args .n) (c .match .rest)))
@@ -101,23 +108,23 @@ pub section-size-spec : {M : Type 1} → statement M
 section-size-spec =
     tie.close
     (tie.spec
-    field-requires
+    components-requires
     mul-result
-    field-requires-2
+    variables-requires
     mul-result-2
-    field-requires-3
+    transitions-requires
     mul-result-3
-    field-requires-4
+    interactions-requires
     mul-result-4
-    field-requires-5
+    interactions-requires-2
     mul-result-5
-    field-requires-6
+    propositions-requires
     mul-result-6
-    letter-count-requires
+    letters-requires
     add-result
-    field-requires-7
+    oracle-states-requires
     mul-result-7
-    field-requires-8
+    code-words-requires
     mul-result-8
     returns
     returns-2

@@ -2,12 +2,12 @@ use Rattle.tables.proofs.RankRows.{bounded-at}
 use Rattle.tables.proofs.RankWalk.{Left, left-start, left-next, left-done, closed-covers}
 use Rattle.tables.specs.RankRow.{covers}
 use Rattle.words.proofs.BitLaws.{lowest-set}
-use Rattle.semantics.specs.Plan.{interactions, rankRow}
-use Rattle.semantics.specs.Bytes.{u64, implies, every, bit}
+use Rattle.semantics.specs.Plan.{interactions}
+use Rattle.semantics.specs.Bytes.{implies, every, bit}
 use Rattle.semantics.proofs.Basics.{absurd-bool}
 use borrow.Author.Tests.{not-true, not-false}
 use native.Mathlib.Omega.{arith}
-use Prim.Native.Nat.{ℕ, _+_, _*_, _<_}
+use Prim.Native.Nat.{ℕ, _<_}
 use mathlib.Core.Bool.{Bool, true, not, _&&_}
 use lib.Dec.{eqb}
 use mathlib.Core.Path.{_≡_, refl, sym, ap, ap₂, _∙_}
@@ -16,36 +16,27 @@ use Rattle.tables.proofs.ranks.is_closed.Statement.{statement}
 use Rattle.tables.proofs.ranks.is_closed.Tie as tie
 
 abbrev Inv-loop : tie.InvT-loop
-Inv-loop plan row at left₀ left = Left plan row left
+Inv-loop plan row left₀ left = Left plan row left
 
 abbrev μ-loop : tie.MeasureT-loop
-μ-loop plan row at left₀ left = left
+μ-loop plan row left₀ left = left
 
 -- the lowest number that is left is in the row
-in-row : (c : tie.After-lowest-bit Inv-loop μ-loop) → bit (c .before .before .before .before .before .args .row) (c .lowest-bit .result) ≡ true
-in-row c = let s = c .before .before .before .before .before in
+in-row : (c : tie.After-lowest-bit Inv-loop μ-loop) → bit (c .before .before .before .before .args .row) (c .lowest-bit .result) ≡ true
+in-row c = let s = c .before .before .before .before in
     let l = c .before .before .loop in
     ap (bit (s .args .row)) (c .lowest-bit .ensures .0) ∙ l .inv .inside _ (lowest-set 64 (l .left) (omega arith) (omega arith))
 
 -- it is an interaction
-named : (c : tie.After-lowest-bit Inv-loop μ-loop) → c .lowest-bit .result < interactions (c .before .before .before .before .before .args .plan .now)
-named c = let s = c .before .before .before .before .before in
+named : (c : tie.After-lowest-bit Inv-loop μ-loop) → c .lowest-bit .result < interactions (c .before .before .before .before .args .plan .now)
+named c = let s = c .before .before .before .before in
     bounded-at (s .args .plan .now) (s .args .row) (s .pre .1) (c .lowest-bit .result) (c .lowest-bit .ensures .1) (in-row c)
 
--- what is read is its row
-above-is : (c : tie.After-u64-at Inv-loop μ-loop) → c .u64-at .result ≡ rankRow (c .before .before .before .before .before .before .args .plan .now) (c .before .lowest-bit .result)
-above-is c = let b = c .before in
-    let f = b .before .before .before in
-    c .u64-at .ensures ∙ ap (λ (x : ℕ). u64 (f .before .before .args .plan .now) (x + 8 * b .lowest-bit .result)) (f .field .ensures .0)
-
 -- what `inside` answers of it
-seen : (c : tie.After-inside Inv-loop μ-loop) → c .inside .result ≡ covers (c .before .before .before .before .before .before .before .args .plan .now) (c .before .before .before .before .before .before .before .args .row) (c .before .before .lowest-bit .result)
+seen : (c : tie.After-inside Inv-loop μ-loop) → c .inside .result ≡ covers (c .before .before .before .before .before .before .args .plan .now) (c .before .before .before .before .before .before .args .row) (c .before .before .lowest-bit .result)
 unfolding covers
-seen c = let s = c .before .before .before .before .before .before .before in
-    c .inside .ensures ∙ ap (λ (m : ℕ). every 64 (λ k. implies (bit m k) (bit (s .args .row) k))) (above-is (c .before))
-
-field-requires : tie.Need-field-requires Inv-loop μ-loop
-field-requires c κs = search needs
+seen c = let s = c .before .before .before .before .before .before in
+    c .inside .ensures ∙ ap (λ (m : ℕ). every 64 (λ k. implies (bit m k) (bit (s .args .row) k))) (c .before .rank-row .ensures)
 
 loop-holds : tie.Need-loop-holds Inv-loop μ-loop
 loop-holds c = left-start _ _
@@ -53,14 +44,8 @@ loop-holds c = left-start _ _
 lowest-bit-requires : tie.Need-lowest-bit-requires Inv-loop μ-loop
 lowest-bit-requires c κs = omega arith
 
-mul-u64-at : tie.Need-mul-u64-at Inv-loop μ-loop
-mul-u64-at c = omega arith
-
-add-u64-at : tie.Need-add-u64-at Inv-loop μ-loop
-add-u64-at c = omega (arith, named c)
-
-u64-at-requires : tie.Need-u64-at-requires Inv-loop μ-loop
-u64-at-requires c κs = omega (arith, named c)
+rank-row-requires : tie.Need-rank-row-requires Inv-loop μ-loop
+rank-row-requires c κs = omega (arith, named c)
 
 inside-requires : tie.Need-inside-requires Inv-loop μ-loop
 inside-requires c κs = search needs
@@ -68,7 +53,7 @@ inside-requires c κs = search needs
 returns : tie.Need-returns Inv-loop μ-loop
 returns c = let i = c .before in
     let b = i .before .before in
-    let a = b .before .before .before .before .before .args in (
+    let a = b .before .before .before .before .args in (
       λ t. absurd-bool t refl,
       λ e. absurd-bool (closed-covers (a .plan .now) (a .row) e (b .lowest-bit .result) (b .lowest-bit .ensures .1) (in-row b)) (sym (seen i) ∙ not-true _ (c .if1 .taken)),
     )
@@ -88,17 +73,17 @@ loop-again c = let w = c .before in
     let u = i .before in
     let b = u .before in
     let l = b .before .before .loop in
-    let a = b .before .before .before .before .before .args in
+    let a = b .before .before .before .before .args in
     left-next (a .plan .now) (a .row) (l .left) (b .lowest-bit .result) (l .inv) (b .lowest-bit .ensures .1) (in-row b) (sym (seen i) ∙ not-false _ (w .before .if1 .left))
     (c .without .result) (omega (arith, c .without .ensures .1, w .without-lowest .ensures .1))
     (λ k. c .without .ensures .0 k
     ∙ ap₂ (λ (x y : Bool). x && not y)
     (w .without-lowest .ensures .0 k ∙ ap (λ (x : ℕ). bit (l .left) k && not (eqb k x)) (sym (b .lowest-bit .ensures .0)))
-    (ap (λ (m : ℕ). bit m k) (above-is u)))
+    (ap (λ (m : ℕ). bit m k) (u .rank-row .ensures)))
 
 returns-2 : tie.Need-returns-2 Inv-loop μ-loop
 returns-2 c = let l = c .before .loop in
-    let a = c .before .before .before .before .args in
+    let a = c .before .before .before .args in
     (λ t. left-done (a .plan .now) (a .row) (l .left) (l .inv) (omega arith), λ e. refl)
 
 pub is-closed-spec : {M : Type 1} → statement M
@@ -107,12 +92,9 @@ is-closed-spec =
     (tie.spec
     Inv-loop
     μ-loop
-    field-requires
     loop-holds
     lowest-bit-requires
-    mul-u64-at
-    add-u64-at
-    u64-at-requires
+    rank-row-requires
     inside-requires
     returns
     without-lowest-requires

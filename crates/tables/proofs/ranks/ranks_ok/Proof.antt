@@ -1,9 +1,8 @@
 use Rattle.tables.proofs.RankRows.{rows-ranks}
 use Rattle.tables.proofs.RankWalk.{rows-passed}
-use Rattle.tables.specs.RankRow.{rowOk, Passed}
-use Rattle.words.proofs.TestLaws.{every-fails}
+use Rattle.tables.specs.RankRow.{rowOk, RowPassed}
 use Rattle.semantics.specs.Plan.{interactions}
-use Rattle.semantics.proofs.Basics.{bool-cases, absurd-bool, ltb-true, ltb-false}
+use Rattle.semantics.proofs.Basics.{bool-cases, absurd-bool, ltb-true, ltb-false, every-fails}
 use lib.Dec.{ltb}
 use borrow.Author.Tests.{not-true, not-false}
 use native.Mathlib.Omega.{arith}
@@ -14,13 +13,13 @@ use Rattle.tables.proofs.ranks.ranks_ok.Statement.{statement}
 use Rattle.tables.proofs.ranks.ranks_ok.Tie as tie
 
 abbrev Inv-loop : tie.InvT-loop
-Inv-loop plan count all i₀ i = (i ≤ count) × ((j : ℕ) → j < i → Passed plan j)
+Inv-loop plan count all i₀ i = (i ≤ count) × ((j : ℕ) → j < i → RowPassed plan j)
 
 abbrev μ-loop : tie.MeasureT-loop
 μ-loop plan count all i₀ i = count - i
 
-field-requires : tie.Need-field-requires Inv-loop μ-loop
-field-requires c κs = search needs
+interactions-requires : tie.Need-interactions-requires Inv-loop μ-loop
+interactions-requires c κs = search needs
 
 first-bits-requires : tie.Need-first-bits-requires Inv-loop μ-loop
 first-bits-requires c κs = search needs
@@ -32,7 +31,7 @@ row-ok-requires : tie.Need-row-ok-requires Inv-loop μ-loop
 row-ok-requires c κs =
     let a = c .before .before in
     let f = a .before in
-    (f .before .before .pre, omega arith, λ j. a .first-bits .ensures j ∙ ap (ltb j) (f .field .ensures .0))
+    (f .before .before .pre, omega arith, λ j. a .first-bits .ensures j ∙ ap (ltb j) (f .interactions .ensures .0))
 
 returns : tie.Need-returns Inv-loop μ-loop
 returns c = let r = c .before in
@@ -53,7 +52,7 @@ loop-again c = let r = c .before in
     let p = r .before .before .before .before .before .before .args .plan .now in (
       omega arith,
       λ j h. bool-cases (ltb j (l .i)) (λ t. l .inv .1 j (ltb-true j (l .i) t))
-          (λ f. let e : l .i ≡ j = omega (arith, ltb-false j (l .i) f) in subst (Passed p) e (r .row-ok .ensures .0 (not-false _ (c .if1 .left)))),
+          (λ f. let e : l .i ≡ j = omega (arith, ltb-false j (l .i) f) in subst (RowPassed p) e (r .row-ok .ensures .0 (not-false _ (c .if1 .left)))),
     )
 
 returns-2 : tie.Need-returns-2 Inv-loop μ-loop
@@ -69,7 +68,7 @@ ranks-ok-spec =
     (tie.spec
     Inv-loop
     μ-loop
-    field-requires
+    interactions-requires
     first-bits-requires
     loop-holds
     row-ok-requires

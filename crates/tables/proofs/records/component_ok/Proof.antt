@@ -1,18 +1,12 @@
 use mathlib.Core.Path.{sym, _∙_}
 use borrow.Author.Needs.{needs}
 use Rattle.semantics.specs.Rules.{componentOk}
-use Rattle.tables.proofs.Conjunctions.{tests}
+use Rattle.words.proofs.TestLaws.{tests}
 use Rattle.tables.proofs.records.component_ok.Statement.{statement}
 use Rattle.tables.proofs.records.component_ok.Tie as tie
 
-field-requires : tie.Need-field-requires
-field-requires c κs = search needs
-
-mul-at : tie.Need-mul-at
-mul-at c = search needs
-
-add-at : tie.Need-add-at
-add-at c = search needs
+component-at-requires : tie.Need-component-at-requires
+component-at-requires c κs = search needs
 
 shared-slice-read-wide : tie.Need-shared-slice-read-wide
 shared-slice-read-wide c = search needs
@@ -58,9 +52,7 @@ pub component-ok-spec : {M : Type 1} → statement M
 component-ok-spec =
     tie.close
     (tie.spec
-    field-requires
-    mul-at
-    add-at
+    component-at-requires
     shared-slice-read-wide
     wide-requires
     ranged-requires

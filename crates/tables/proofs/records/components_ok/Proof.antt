@@ -7,8 +7,8 @@ use borrow.Author.Needs.{needs}
 use Rattle.semantics.specs.Rules.{componentOk}
 use Rattle.semantics.specs.Plan.{components}
 use Rattle.semantics.specs.Bytes.{every}
-use Rattle.words.proofs.TestLaws.{every-next, every-fails}
-use Rattle.tables.proofs.Counted.{every-done}
+use Rattle.words.proofs.Loops.{every-next, every-done}
+use Rattle.semantics.proofs.Basics.{every-fails}
 use Rattle.tables.proofs.records.components_ok.Statement.{statement}
 use Rattle.tables.proofs.records.components_ok.Tie as tie
 
@@ -18,8 +18,8 @@ Inv-loop plan count c₀ c = (c ≤ components plan) × (every c (componentOk pl
 abbrev μ-loop : tie.MeasureT-loop
 μ-loop plan count c₀ c = count - c
 
-field-requires : tie.Need-field-requires Inv-loop μ-loop
-field-requires c κs = search needs
+components-requires : tie.Need-components-requires Inv-loop μ-loop
+components-requires c κs = search needs
 
 loop-holds : tie.Need-loop-holds Inv-loop μ-loop
 unfolding every
@@ -51,7 +51,7 @@ components-ok-spec =
     (tie.spec
     Inv-loop
     μ-loop
-    field-requires
+    components-requires
     loop-holds
     component-ok-requires
     returns

@@ -6,8 +6,8 @@ use Rattle.semantics.specs.Rules.{portOk, interactionOk}
 use Rattle.semantics.specs.Plan.{takesPart}
 use Rattle.semantics.specs.Bytes.{every, some-below}
 use Rattle.tables.proofs.Ports.{port-rule}
-use Rattle.tables.proofs.Counted.{every-step, some-step}
-use Rattle.tables.proofs.Conjunctions.{tests}
+use Rattle.words.proofs.Loops.{every-step, some-step}
+use Rattle.words.proofs.TestLaws.{tests}
 use Rattle.tables.proofs.records.interaction_ok.Statement.{statement}
 use Rattle.tables.proofs.records.interaction_ok.Tie as tie
 
@@ -17,14 +17,8 @@ Inv-loop plan limits i at good₀ any₀ c₀ good any c = (c ≤ 16) × (good �
 abbrev μ-loop : tie.MeasureT-loop
 μ-loop plan limits i at good₀ any₀ c₀ good any c = 16 - c
 
-field-requires : tie.Need-field-requires Inv-loop μ-loop
-field-requires c κs = search needs
-
-mul-at : tie.Need-mul-at Inv-loop μ-loop
-mul-at c = search needs
-
-add-at : tie.Need-add-at Inv-loop μ-loop
-add-at c = search needs
+interaction-at-requires : tie.Need-interaction-at-requires Inv-loop μ-loop
+interaction-at-requires c κs = search needs
 
 loop-holds : tie.Need-loop-holds Inv-loop μ-loop
 unfolding every some-below
@@ -72,9 +66,7 @@ interaction-ok-spec =
     (tie.spec
     Inv-loop
     μ-loop
-    field-requires
-    mul-at
-    add-at
+    interaction-at-requires
     loop-holds
     add-port-ok
     shared-slice-read-port-ok

@@ -7,8 +7,8 @@ use borrow.Author.Needs.{needs}
 use Rattle.semantics.specs.Rules.{interactionOk}
 use Rattle.semantics.specs.Plan.{interactions}
 use Rattle.semantics.specs.Bytes.{every}
-use Rattle.words.proofs.TestLaws.{every-next, every-fails}
-use Rattle.tables.proofs.Counted.{every-done}
+use Rattle.words.proofs.Loops.{every-next, every-done}
+use Rattle.semantics.proofs.Basics.{every-fails}
 use Rattle.tables.proofs.records.interactions_ok.Statement.{statement}
 use Rattle.tables.proofs.records.interactions_ok.Tie as tie
 
@@ -21,8 +21,8 @@ abbrev μ-loop : tie.MeasureT-loop
 port-limits-requires : tie.Need-port-limits-requires Inv-loop μ-loop
 port-limits-requires c κs = search needs
 
-field-requires : tie.Need-field-requires Inv-loop μ-loop
-field-requires c κs = search needs
+interactions-requires : tie.Need-interactions-requires Inv-loop μ-loop
+interactions-requires c κs = search needs
 
 loop-holds : tie.Need-loop-holds Inv-loop μ-loop
 unfolding every
@@ -55,7 +55,7 @@ interactions-ok-spec =
     Inv-loop
     μ-loop
     port-limits-requires
-    field-requires
+    interactions-requires
     loop-holds
     interaction-ok-requires
     returns

@@ -5,18 +5,12 @@ use borrow.Author.Needs.{needs}
 use Rattle.semantics.specs.Rules.{transitionOk}
 use Rattle.semantics.specs.Plan.{components, componentOf}
 use Rattle.semantics.proofs.Basics.{lt-ltb, le-ltb}
-use Rattle.tables.proofs.Conjunctions.{tests, first-fails, first-passed}
+use Rattle.words.proofs.TestLaws.{tests, first-fails, first-passed}
 use Rattle.tables.proofs.records.transition_ok.Statement.{statement}
 use Rattle.tables.proofs.records.transition_ok.Tie as tie
 
-field-requires : tie.Need-field-requires
-field-requires c κs = search needs
-
-mul-at : tie.Need-mul-at
-mul-at c = search needs
-
-add-at : tie.Need-add-at
-add-at c = search needs
+transition-at-requires : tie.Need-transition-at-requires
+transition-at-requires c κs = search needs
 
 shared-slice-read-wide : tie.Need-shared-slice-read-wide
 shared-slice-read-wide c = search needs
@@ -24,23 +18,17 @@ shared-slice-read-wide c = search needs
 wide-requires : tie.Need-wide-requires
 wide-requires c κs = search needs
 
-field-requires-2 : tie.Need-field-requires-2
-field-requires-2 c κs = search needs
+components-requires : tie.Need-components-requires
+components-requires c κs = search needs
 
 returns : tie.Need-returns
 unfolding transitionOk
 returns c = let a = c .before .before .before .before .before .before .args in
-    let no : ltb (c .before .before .wide .result) (c .before .field2 .result) ≡ false = le-ltb _ _ (c .if1 .taken) in
+    let no : ltb (c .before .before .wide .result) (c .before .components .result) ≡ false = le-ltb _ _ (c .if1 .taken) in
     sym (first-fails (ltb (componentOf (a .plan .now) (a .t)) (components (a .plan .now))) _ (cc))
 
-field-requires-3 : tie.Need-field-requires-3
-field-requires-3 c κs = search needs
-
-mul-home : tie.Need-mul-home
-mul-home c = search needs
-
-add-home : tie.Need-add-home
-add-home c = search needs
+component-at-requires : tie.Need-component-at-requires
+component-at-requires c κs = search needs
 
 shared-slice-read-locations : tie.Need-shared-slice-read-locations
 shared-slice-read-locations c = search needs
@@ -73,23 +61,19 @@ returns-2 : tie.Need-returns-2
 unfolding transitionOk
 returns-2 c = let tested = c .before .before .before .before .before .before in
     let a = tested .before .before .before .before .before .before .args in
-    let yes : ltb (tested .before .before .wide .result) (tested .before .field2 .result) ≡ true = lt-ltb _ _ (tested .if1 .left) in
+    let yes : ltb (tested .before .before .wide .result) (tested .before .components .result) ≡ true = lt-ltb _ _ (tested .if1 .left) in
     sym (first-passed (ltb (componentOf (a .plan .now) (a .t)) (components (a .plan .now))) _ (cc) ∙ tests _ _ ∙ (cc))
 
 pub transition-ok-spec : {M : Type 1} → statement M
 transition-ok-spec =
     tie.close
     (tie.spec
-    field-requires
-    mul-at
-    add-at
+    transition-at-requires
     shared-slice-read-wide
     wide-requires
-    field-requires-2
+    components-requires
     returns
-    field-requires-3
-    mul-home
-    add-home
+    component-at-requires
     shared-slice-read-locations
     add-ports
     shared-slice-read-ports

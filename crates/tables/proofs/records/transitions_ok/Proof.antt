@@ -7,8 +7,8 @@ use borrow.Author.Needs.{needs}
 use Rattle.semantics.specs.Rules.{transitionOk}
 use Rattle.semantics.specs.Plan.{transitions}
 use Rattle.semantics.specs.Bytes.{every}
-use Rattle.words.proofs.TestLaws.{every-next, every-fails}
-use Rattle.tables.proofs.Counted.{every-done}
+use Rattle.words.proofs.Loops.{every-next, every-done}
+use Rattle.semantics.proofs.Basics.{every-fails}
 use Rattle.tables.proofs.records.transitions_ok.Statement.{statement}
 use Rattle.tables.proofs.records.transitions_ok.Tie as tie
 
@@ -18,8 +18,8 @@ Inv-loop plan count t₀ t = (t ≤ transitions plan) × (every t (transitionOk 
 abbrev μ-loop : tie.MeasureT-loop
 μ-loop plan count t₀ t = count - t
 
-field-requires : tie.Need-field-requires Inv-loop μ-loop
-field-requires c κs = search needs
+transitions-requires : tie.Need-transitions-requires Inv-loop μ-loop
+transitions-requires c κs = search needs
 
 loop-holds : tie.Need-loop-holds Inv-loop μ-loop
 unfolding every
@@ -51,7 +51,7 @@ transitions-ok-spec =
     (tie.spec
     Inv-loop
     μ-loop
-    field-requires
+    transitions-requires
     loop-holds
     transition-ok-requires
     returns

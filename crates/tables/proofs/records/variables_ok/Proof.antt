@@ -7,8 +7,8 @@ use borrow.Author.Needs.{needs}
 use Rattle.semantics.specs.Rules.{variableOk}
 use Rattle.semantics.specs.Plan.{variables}
 use Rattle.semantics.specs.Bytes.{every}
-use Rattle.words.proofs.TestLaws.{every-next, every-fails}
-use Rattle.tables.proofs.Counted.{every-done}
+use Rattle.words.proofs.Loops.{every-next, every-done}
+use Rattle.semantics.proofs.Basics.{every-fails}
 use Rattle.tables.proofs.records.variables_ok.Statement.{statement}
 use Rattle.tables.proofs.records.variables_ok.Tie as tie
 
@@ -18,8 +18,8 @@ Inv-loop plan count v₀ v = (v ≤ variables plan) × (every v (variableOk plan
 abbrev μ-loop : tie.MeasureT-loop
 μ-loop plan count v₀ v = count - v
 
-field-requires : tie.Need-field-requires Inv-loop μ-loop
-field-requires c κs = search needs
+variables-requires : tie.Need-variables-requires Inv-loop μ-loop
+variables-requires c κs = search needs
 
 loop-holds : tie.Need-loop-holds Inv-loop μ-loop
 unfolding every
@@ -51,7 +51,7 @@ variables-ok-spec =
     (tie.spec
     Inv-loop
     μ-loop
-    field-requires
+    variables-requires
     loop-holds
     variable-ok-requires
     returns

@@ -1,5 +1,5 @@
 use Rattle.words.proofs.BitLaws.{or-one}
-use Rattle.semantics.specs.Calls.{withBit}
+use Rattle.semantics.specs.Bytes.{withBit}
 use native.Mathlib.Omega.{arith}
 use borrow.Author.Needs.{needs}
 use Rattle.words.proofs.bits.with_bit.Statement.{statement}

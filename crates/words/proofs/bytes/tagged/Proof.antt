@@ -1,4 +1,6 @@
-use Rattle.words.proofs.TestLaws.{and-four}
+use Rattle.words.proofs.TestLaws.{tests}
+use mathlib.Core.Path.{sym}
+use mathlib.Core.List.{[], _∷_}
 use borrow.Author.Needs.{needs}
 use Rattle.words.proofs.bytes.tagged.Statement.{statement}
 use Rattle.words.proofs.bytes.tagged.Tie as tie
@@ -28,7 +30,7 @@ element-copy-out-result-4 : tie.Need-element-copy-out-result-4
 element-copy-out-result-4 c = search needs
 
 returns : tie.Need-returns
-returns c = and-four _ _ _ _
+returns c = sym (tests _ (_ ∷ _ ∷ _ ∷ []))
 
 pub tagged-spec : {M : Type 1} → statement M
 tagged-spec =

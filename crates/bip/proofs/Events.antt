@@ -1,0 +1,142 @@
+-- Events and verdicts: every state has one event, and 01's good and bad are the oracle's verdicts (000 section 4.3, 002 definition 14).
+use mathlib.Core.Path.{_≡_, refl, sym, ap, _∙_, subst}
+use mathlib.Core.Logic.{_↔_, inl, inr}
+use Prim.Native.Nat.{ℕ, zero, suc, _+_, _*_, _/_, _%_, _^_, _<_}
+use native.Mathlib.Nat.{pow-suc, le-trans}
+use native.Mathlib.Omega.{arith}
+use mathlib.Core.Bool.{true, false, not, cond}
+use lib.Seq.{ext-getD}
+use lib.Dec.{ltb, eqb}
+use lib.IntN.{ℤ, pos}
+use Rattle.semantics.specs.Bytes.{bit, mask, table}
+use Rattle.semantics.specs.Plan.{Plan, components, variables, propositions, firstOracle, propositionOf, startLocation, startValue, next}
+use Rattle.semantics.specs.Code.{State, guardHolds}
+use Rattle.semantics.specs.Rules.{planRefusal}
+use Rattle.semantics.specs.Move.{Configuration, letter, judged, oracleInRange, oracleGood, good, initialState, initial}
+use Rattle.bip.specs.Steps.{Init}
+use Rattle.bip.specs.Monitor.{Letter, Satisfies, Reads, reads, Allows, Forbids, Begins}
+use Rattle.semantics.proofs.Basics.{bool-cases, absurd-bool, not-no, eqb-true, eq-eqb, eqb-false, ltb-true, ltb-false, lt-ltb, length-table, getD-table}
+use Rattle.semantics.proofs.Masks.{bit-mask, mask-same}
+use Rattle.semantics.proofs.AcceptedPlan.{accepted-plan, Counts, counts-of}
+use Rattle.semantics.proofs.Sound.{letter-lt, sound-initial}
+use Rattle.bip.proofs.Components.{state-of}
+use Rattle.bip.proofs.SafetyProperty.{allows-or-forbids, not-both}
+
+-- ---- events
+
+-- a number is its lowest binary digit and twice its half
+digit-back : (m : ℕ) → cond (eqb (m % 2) 1) 1 0 + 2 * (m / 2) ≡ m
+digit-back m =
+    bool-cases (eqb (m % 2) 1) (λ e. let h : m % 2 ≡ 1 = eqb-true (m % 2) 1 e in rw e (odd m h)) (λ e. rw e (even m (eqb-false (m % 2) 1 e)))
+  where
+    odd : (m : ℕ) → m % 2 ≡ 1 → 1 + 2 * (m / 2) ≡ m
+    odd m h = omega arith
+
+    even : (m : ℕ) → (m % 2 ≡ 1 → ⊥) → 0 + 2 * (m / 2) ≡ m
+    even m h = omega arith
+
+-- a number below 2 ^ n is the mask of its bits
+mask-bits : (n m : ℕ) → m < 2 ^ n → mask n (bit m) ≡ m
+unfolding mask bit
+mask-bits zero m h = omega arith
+mask-bits (suc n) m h =
+    let e : 2 * 2 ^ n ≡ 2 ^ suc n = omega (arith, pow-suc 2 n) in
+    let l : m < 2 * 2 ^ n = subst (λ (x : ℕ). m < x) (sym e) h in
+    ap (λ (k : ℕ). cond (eqb (m % 2) 1) 1 0 + 2 * k) (mask-bits n (m / 2) (half m (2 ^ n) l)) ∙ digit-back m
+  where
+    half : (m x : ℕ) → m < 2 * x → m / 2 < x
+    half m x l = omega arith
+
+-- 000 section 4.3: every state has an event, the engine's letter
+pub event-of : (p : Plan) (q : State) → Satisfies p q (letter p q, letter-lt p q)
+unfolding letter
+event-of p q k h = bit-mask (propositions p) (λ j. guardHolds p q (propositionOf p j)) k h
+
+-- 000 section 4.3: and it has no other
+pub event-once : (p : Plan) (q : State) (e : Letter p) → Satisfies p q e → e .0 ≡ letter p q
+unfolding letter
+event-once p q e s =
+    sym (mask-bits (propositions p) (e .0) (e .1)) ∙ mask-same (propositions p) (λ k. guardHolds p q (propositionOf p k)) (bit (e .0)) s
+
+-- ---- verdicts
+
+-- 002 definition 14: the oracle's transition function
+pub reads-is : {p : Plan} {θ θ' : ℕ} {e : Letter p} → Reads p θ e θ' → θ' ≡ next p θ (e .0)
+reads-is reads = refl
+
+-- 01's bad is the oracle's verdict ⊥
+pub bad-forbids : (p : Plan) (c : Configuration) → good p c ≡ false ↔ Forbids p (c .oracle)
+unfolding good oracleGood
+bad-forbids p c = (λ e. eqb-true _ _ (not-no _ e), λ f. ap not (eq-eqb _ _ f))
+
+module _ (p : Plan) (ok : planRefusal p ≡ 0) where
+  -- 01's good is the oracle's verdict ⊤ or ⊤_c
+  pub good-allows : (c : Configuration) → oracleInRange p (c .oracle) ≡ true → good p c ≡ true ↔ Allows p (c .oracle)
+  good-allows c l = (
+    (λ g. elim (allows-or-forbids p ok (c .oracle) l) [ inl a ↦ a | inr f ↦ absurd-bool g (bad-forbids p c .1 f) ]),
+    (λ a. bool-cases (good p c) (λ g. g) (λ g. absurd (not-both p (c .oracle) a (bad-forbids p c .0 g)))),
+  )
+
+  -- 000 section 4.3: the engine's starting configuration is a judged beginning
+  pub initial-begins : Begins p (initial p)
+  unfolding initial judged initialState
+  initial-begins =
+      let counts : Counts p = counts-of p (accepted-plan p ok .counts) in
+      record {
+        initial-state =
+            record {
+              state = state-of p ok (initial p) (sound-initial p (accepted-plan p ok));
+              starts = λ c l. getD-table 16 (λ k. cond (ltb k (components p)) (startLocation p k) 0) 0 c (le-trans l (counts .components≤)) ∙ rw (lt-ltb c (components p) l) refl;
+              silent = λ c l. getD-table {A = ℕ} 16 (λ k. 255) 0 c (le-trans l (counts .components≤));
+              holds = λ v l. getD-table 64 (λ k. cond (ltb k (variables p)) (startValue p k) (pos 0)) (pos 0) v (le-trans l (counts .variables≤)) ∙ rw (lt-ltb v (variables p) l) refl;
+            };
+        first-event = (letter p (initialState p), letter-lt p (initialState p));
+        observed = event-of p (initialState p);
+        judged-first = reads;
+      }
+
+-- ---- the one beginning
+
+initial-locations : (p : Plan) (q : State) → Init p q → q .locations ≡ initialState p .locations
+unfolding initialState
+initial-locations p q h =
+    let f : ℕ → ℕ = λ c. cond (ltb c (components p)) (startLocation p c) 0 in
+    ext-getD 0 (q .locations) (table 16 f) (h .state .locations-long ∙ sym (length-table 16 f))
+    (λ c m.
+    let l : c < 16 = subst (λ (n : ℕ). c < n) (h .state .locations-long) m in
+    bool-cases (ltb c (components p)) (λ t. h .starts c (ltb-true _ _ t) ∙ sym (getD-table 16 f 0 c l ∙ rw t refl))
+    (λ t. h .state .no-location c (ltb-false _ _ t) l ∙ sym (getD-table 16 f 0 c l ∙ rw t refl)))
+
+initial-ports : (p : Plan) (q : State) → Init p q → q .lastPorts ≡ initialState p .lastPorts
+unfolding initialState
+initial-ports p q h =
+    let f : ℕ → ℕ = λ c. 255 in
+    ext-getD 0 (q .lastPorts) (table 16 f) (h .state .ports-long ∙ sym (length-table 16 f))
+    (λ c m.
+    let l : c < 16 = subst (λ (n : ℕ). c < n) (h .state .ports-long) m in
+    bool-cases (ltb c (components p)) (λ t. h .silent c (ltb-true _ _ t) ∙ sym (getD-table 16 f 0 c l))
+    (λ t. h .state .no-port c (ltb-false _ _ t) l ∙ sym (getD-table 16 f 0 c l)))
+
+initial-values : (p : Plan) (q : State) → Init p q → q .values ≡ initialState p .values
+unfolding initialState
+initial-values p q h =
+    let f : ℕ → ℤ = λ v. cond (ltb v (variables p)) (startValue p v) (pos 0) in
+    ext-getD (pos 0) (q .values) (table 64 f) (h .state .values-long ∙ sym (length-table 64 f))
+    (λ v m.
+    let l : v < 64 = subst (λ (n : ℕ). v < n) (h .state .values-long) m in
+    bool-cases (ltb v (variables p)) (λ t. h .holds v (ltb-true _ _ t) ∙ sym (getD-table 64 f (pos 0) v l ∙ rw t refl))
+    (λ t. h .state .no-value v (ltb-false _ _ t) ∙ sym (getD-table 64 f (pos 0) v l ∙ rw t refl)))
+
+-- 001 definition 9: Init has one state
+pub one-initial-state : (p : Plan) (q : State) → Init p q → q ≡ initialState p
+one-initial-state p q h =
+    λ i. record { locations = initial-locations p q h i; lastPorts = initial-ports p q h i; values = initial-values p q h i }
+
+-- 000 section 4.3: every judged beginning is the engine's starting configuration
+pub begins-initial : (p : Plan) (c : Configuration) → Begins p c → c ≡ initial p
+unfolding initial judged
+begins-initial p c h =
+    let s : c .state ≡ initialState p = one-initial-state p (c .state) (h .initial-state) in
+    let o : c .oracle ≡ next p (firstOracle p) (letter p (initialState p))
+    = reads-is (h .judged-first) ∙ ap (next p (firstOracle p)) (event-once p (c .state) (h .first-event) (h .observed) ∙ ap (letter p) s) in
+    λ i. record { state = s i; oracle = o i }

@@ -1,0 +1,3 @@
+pub mod Monitor
+pub mod Property
+pub mod Steps

@@ -1,0 +1,23 @@
+use borrow.Author.Needs.{needs}
+use Rattle.semantics.specs.Signed.{holds}
+use Rattle.semantics.proofs.Basics.{implies-or}
+use Rattle.arith.proofs.Signed32.{back32}
+use Rattle.code.proofs.operators.implied.Statement.{statement}
+use Rattle.code.proofs.operators.implied.Tie as tie
+
+holds-requires : tie.Need-holds-requires
+holds-requires c κs = search needs
+
+holds-requires-2 : tie.Need-holds-requires-2
+holds-requires-2 c κs = search needs
+
+truth-requires : tie.Need-truth-requires
+truth-requires c κs = search needs
+
+returns : tie.Need-returns
+returns c =
+    let s = c .before .before .before in
+    cc (implies-or (holds (s .args .a)) (holds (s .args .b)), back32 (c .truth .result) (c .truth .ok), back32 (s .args .a) (s .fits .a .sfits), back32 (s .args .b) (s .fits .b .sfits))
+
+pub implied-spec : {M : Type 1} → statement M
+implied-spec = tie.close (tie.spec holds-requires holds-requires-2 truth-requires returns)

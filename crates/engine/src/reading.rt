@@ -1,0 +1,135 @@
+// The reading of a plan and a lane's image: the refusals 1 to 14 in order, and where none applies what is enabled and eligible.
+use choices::choice;
+use choices::masks;
+use lane::image;
+use layout::header::interactions;
+use layout::image::LENGTH;
+use moves::search;
+use words::bits;
+ghost use mathlib.Core.Path.{_≡_};
+ghost use mathlib.Core.Bool.{true};
+ghost use mathlib.Core.List.{_++_};
+ghost use Prim.Native.Nat.{_≤_};
+ghost use lib.ListN.{length, replicate};
+ghost use Rattle.semantics.specs.Bytes.{mask};
+ghost use Rattle.semantics.specs.Plan.{transitions, interactions};
+ghost use Rattle.semantics.specs.Code.{site};
+ghost use Rattle.semantics.specs.Refusal.{refusal};
+ghost use Rattle.semantics.specs.Rules.{planRules, planRefusal};
+ghost use Rattle.semantics.specs.Move.{eligible, oracleInRange};
+ghost use Rattle.semantics.specs.Image.{marksOk, imageRules};
+ghost use Rattle.choices.specs.Choices.{chosenTable};
+ghost use Rattle.lane.specs.Runs.{lent, Sized};
+ghost use Rattle.engine.specs.Known.{Known, Held};
+
+// The first refusal of 1 to 14, and where that is 0 the enabled and the eligible interactions.
+pub struct Reading {
+    pub refusal: u8,
+    pub enabled: u64,
+    pub eligible: u64,
+}
+
+// A lane that is refused.
+fn turned_away(refusal: u8) -> Reading
+    ensures { λ r. ⌜ r .refusal ≡ refusal ⌝ }
+{
+    Reading {
+        refusal: refusal,
+        enabled: 0,
+        eligible: 0,
+    }
+}
+
+// 14: whether each mark is on an eligible interaction that ends bad.
+fn marks_ok<'a>(
+    plan: &[u8],
+    locations: &'a [u8; 16],
+    ports: &'a [u8; 16],
+    values: &'a [i32; 64],
+    oracle: u8,
+    marks: u64,
+    chosen: &[u16; 256],
+    eligible: u64,
+) -> bool
+    requires { ⌜ planRefusal (now plan) ≡ 0 ⌝ }
+    requires { ⌜ (now chosen ≡ chosenTable (now plan) (site (now locations) (now ports) (now values))) × Sized (now locations) (now ports) (now values) ⌝ }
+    requires { ⌜ (oracleInRange (now plan) oracle ≡ true) × (eligible ≡ mask (interactions (now plan)) (Rattle.semantics.specs.Move.eligible (now plan) (site (now locations) (now ports) (now values)))) ⌝ }
+    ensures { λ r. ⌜ r ≡ marksOk (now (plan .entry)) (lent (now (locations .entry)) (now (ports .entry)) (now (values .entry)) oracle) marks ⌝ }
+{
+    if !bits::inside(marks, eligible) {
+        return false;
+    }
+    if marks == 0 {
+        return true;
+    }
+    let mut places = *locations;
+    let mut last = *ports;
+    let mut numbers = *values;
+    let found = search::lowest_good(
+        plan,
+        locations,
+        ports,
+        values,
+        oracle,
+        chosen,
+        marks,
+        &mut places,
+        &mut last,
+        &mut numbers,
+    );
+    found.number >= interactions(plan)
+}
+
+// Reads plan and image: `checked` is what the plan's check said, the parts lent are those of the image's run record, and the table of choices has none yet.
+// Where nothing is refused the table is filled.
+pub fn read<'a>(
+    plan: &[u8],
+    image: &[u8],
+    checked: u8,
+    locations: &'a [u8; 16],
+    ports: &'a [u8; 16],
+    values: &'a [i32; 64],
+    oracle: u8,
+    marks: u64,
+    chosen: &mut [u16; 256],
+) -> Reading
+    requires { ⌜ checked ≡ planRefusal (now plan) ⌝ }
+    requires { ⌜ Held (now image) (lent (now locations) (now ports) (now values) oracle) marks × Sized (now locations) (now ports) (now values) ⌝ }
+    requires { ⌜ (48 ≤ length (now plan) → now chosen ≡ replicate 256 (transitions (now plan))) ⌝ }
+    ensures { λ r. ⌜ r .refusal ≡ refusal (planRules (now (plan .entry)) ++ imageRules (now (plan .entry)) (now (image .entry))) ⌝ }
+    ensures { λ r. ⌜ (r .refusal ≡ 0 → now (chosen .exit) ≡ chosenTable (now (plan .entry)) (site (now (locations .entry)) (now (ports .entry)) (now (values .entry)))) ⌝ }
+    ensures { λ r. ⌜ (r .refusal ≡ 0 → Known (now (plan .entry)) (site (now (locations .entry)) (now (ports .entry)) (now (values .entry))) r) ⌝ }
+{
+    if checked != 0 {
+        return turned_away(checked);
+    }
+    if image.len() != LENGTH {
+        return turned_away(11);
+    }
+    if !image::head_matches(plan, image) {
+        return turned_away(12);
+    }
+    if !image::configuration_ok(plan, locations, ports, values, oracle) {
+        return turned_away(13);
+    }
+    choice::choose(plan, locations, ports, values, chosen);
+    let enabled = masks::enabled_mask(plan, locations, ports, values, chosen);
+    let eligible = masks::eligible_mask(plan, enabled);
+    if !marks_ok(
+        plan,
+        locations,
+        ports,
+        values,
+        oracle,
+        marks,
+        chosen,
+        eligible,
+    ) {
+        return turned_away(14);
+    }
+    Reading {
+        refusal: 0,
+        enabled: enabled,
+        eligible: eligible,
+    }
+}

@@ -1,0 +1,56 @@
+/* Two builds of the library, and a second copy of the old one, timed in turn in one run, best of rounds.
+   What copy / old differs from 1 by is placement and noise; new / old is told from it only beyond that,
+   and only if it is so again: equal builds have a cell above the greatest copy / old in about every second run.
+   builds ROUNDS PLAN... */
+#define _GNU_SOURCE
+#include "scenes.h"
+
+CALLS(old)
+CALLS(new)
+CALLS(copy)
+
+enum { OLD, NEW, COPY };
+static const Engine engines[3] = {ENGINE(old), ENGINE(new), ENGINE(copy)};
+
+/* new / old or copy / old. */
+static double ratio(const Cell *c, int who) { return c->best[who] / c->best[OLD]; }
+
+static void print_ratios(const Cell *c) { printf(" %.3f, %.3f |", ratio(c, NEW), ratio(c, COPY)); }
+
+/* Prints the least and the greatest ratio of all cells; gives the greatest. */
+static double spread(const char *what, int who) {
+  double least = 1e18, most = 0;
+  for (int k = 0; k < PLANS; k++)
+    for (int c = 0; c < COLUMNS; c++) {
+      if (!cells[k][c].there) continue;
+      double r = ratio(&cells[k][c], who);
+      if (r < least) least = r;
+      if (r > most) most = r;
+    }
+  printf("%s: %.3f to %.3f\n", what, least, most);
+  return most;
+}
+
+/* The cells whose new / old lies above a limit. */
+static void print_above(double limit, int argc, char **argv) {
+  int count = 0;
+  printf("new / old above %.3f:\n", limit);
+  for (int k = 2; k < argc; k++)
+    for (int c = 0; c < COLUMNS; c++) {
+      const Cell *cell = &cells[k - 2][c];
+      if (!cell->there || ratio(cell, NEW) <= limit) continue;
+      printf("  %s, %s: %.3f\n", basename(argv[k]), columns[c], ratio(cell, NEW));
+      count++;
+    }
+  if (!count) printf("  none\n");
+}
+
+int main(int argc, char **argv) {
+  int rounds = measure(engines, 3, argc, argv);
+  printf("new / old, copy / old, best of %d rounds.\n\n", rounds);
+  print_table(argc, argv, print_ratios);
+  printf("\n");
+  spread("new / old", NEW);
+  print_above(spread("copy / old", COPY), argc, argv);
+  return 0;
+}

@@ -1,0 +1,196 @@
+/* The calls that timing and builds time over plans, the engines in turn, and the table of them. */
+#ifndef SCENES_H
+#define SCENES_H
+#include "baseline.h"
+#include "random.h"
+#include <libgen.h>
+#include <stdio.h>
+#include <stdlib.h>
+#include <string.h>
+#include <time.h>
+
+enum { IMAGE = 312, BATCH_NS = 50000 };  /* a batch is short, so that some fall where nothing else runs */
+enum { ENGINES = 3 };                    /* at most */
+enum { PLANS = 64, PASSES = 10 };        /* passes over all plans: other work falls on no cell's rounds alone */
+enum { DEPTHS = 7, DEPTH = 592 };        /* places of the stack within a page, tried in turn */
+
+typedef struct {
+  uint32_t (*check)(const uint8_t *, size_t);
+  uint32_t (*start)(const uint8_t *, size_t, uint8_t *, size_t);
+  uint64_t (*bits)(const uint8_t *, size_t, const uint8_t *, size_t);
+  uint32_t (*try)(const uint8_t *, size_t, uint8_t *, size_t, uint32_t);
+  uint32_t (*settle)(const uint8_t *, size_t, uint8_t *, size_t);
+} Engine;
+
+#define ENGINE(pre) {pre##_check, pre##_start, pre##_offered_bits, pre##_try, pre##_settle}
+
+typedef struct { uint8_t bytes[65536]; size_t len; } Plan;
+typedef struct { _Alignas(4096) uint8_t bytes[IMAGE]; } Image; /* a page, so that no engine has the better place */
+
+enum column { CHECK, START, OFFERED, COMMITTED, CANCELLED, SETTLE, COLUMNS };
+static const char *const columns[COLUMNS] = {
+  "check", "start", "offered", "try, committed", "try, cancelled", "settle, long run",
+};
+
+/* A try begins from the image each time (its copying is timed too); settling goes on from where it stopped. */
+typedef struct { enum column column; uint8_t image[IMAGE]; uint32_t number; } Job;
+
+/* there: whether the plan has this job. best: ns a call of each engine. */
+typedef struct { int there; Job job; double best[ENGINES]; } Cell;
+
+static Plan plans[PLANS];
+static Cell cells[PLANS][COLUMNS];
+
+static double now(void) {
+  struct timespec t;
+  clock_gettime(CLOCK_MONOTONIC, &t);
+  return (double)t.tv_sec * 1e9 + (double)t.tv_nsec;
+}
+
+/* Makes the call so often; the sum of the answers. */
+static uint64_t repeat(const Engine *e, const Plan *p, const Job *job, uint8_t *b, unsigned times) {
+  uint64_t sum = 0;
+  const uint8_t *plan = p->bytes;
+  size_t len = p->len;
+  switch (job->column) {
+  case CHECK: for (unsigned k = 0; k < times; k++) sum += e->check(plan, len); break;
+  case START: for (unsigned k = 0; k < times; k++) sum += e->start(plan, len, b, IMAGE); break;
+  case OFFERED: for (unsigned k = 0; k < times; k++) sum += e->bits(plan, len, b, IMAGE); break;
+  case SETTLE: for (unsigned k = 0; k < times; k++) sum += e->settle(plan, len, b, IMAGE); break;
+  default:
+    for (unsigned k = 0; k < times; k++) {
+      memcpy(b, job->image, IMAGE);
+      sum += e->try(plan, len, b, IMAGE, job->number);
+    }
+  }
+  return sum;
+}
+
+/* How many calls make a batch. */
+static unsigned batch(const Engine *e, const Plan *p, const Job *job) {
+  uint8_t b[IMAGE];
+  unsigned times = 1;
+  for (double took = 0; took < BATCH_NS; times *= 2) {
+    memcpy(b, job->image, IMAGE);
+    double begin = now();
+    repeat(e, p, job, b, times);
+    took = now() - begin;
+  }
+  return times;
+}
+
+/* The same from further down the stack: how it lies to plan and image moves a time by a tenth. */
+static __attribute__((noinline)) uint64_t repeat_at(int depth, const Engine *e, const Plan *p, const Job *job, uint8_t *b,
+                                                    unsigned times) {
+  volatile uint8_t *room = __builtin_alloca((size_t)depth * DEPTH + 1);
+  *room = 0;
+  return repeat(e, p, job, b, times);
+}
+
+static void differ(const char *what) {
+  printf("\n%s differ\n", what);
+  exit(1);
+}
+
+/* Who has this turn of n in round r: the first moves on by one each round, the direction turns after n rounds. */
+static int whose(int n, int r, int turn) {
+  return r / n % 2 ? (r + n - turn) % n : (r + turn) % n;
+}
+
+/* Lowers best to the best ns a call of each of n engines, which must answer alike and leave the same image,
+   in the rounds from one to before another. */
+static void time_job(const Engine *e, int n, const Plan *p, const Job *job, int from, int to, double *best) {
+  static Image b[ENGINES];
+  uint64_t sum[ENGINES];
+  unsigned times = batch(e, p, job);
+  for (int k = 0; k < n; k++) memcpy(b[k].bytes, job->image, IMAGE);
+  for (int r = from; r < to; r++) {
+    for (int turn = 0; turn < n; turn++) {
+      int who = whose(n, r, turn);
+      double begin = now();
+      sum[who] = repeat_at(r % DEPTHS, &e[who], p, job, b[who].bytes, times);
+      double took = (now() - begin) / times;
+      if (took < best[who]) best[who] = took;
+    }
+    for (int k = 1; k < n; k++) {
+      if (sum[k] != sum[0]) differ("answers");
+      if (memcmp(b[k].bytes, b[0].bytes, IMAGE)) differ("images");
+    }
+  }
+}
+
+/* Walks from the start by random tries to an image where some try is answered by this kind. */
+static int find_try(const Plan *p, uint32_t kind, Job *job) {
+  uint8_t b[IMAGE], c[IMAGE];
+  if (base_start(p->bytes, p->len, b, IMAGE)) return 0;
+  for (int step = 0; step < 100000; step++) {
+    uint64_t offered = base_offered_bits(p->bytes, p->len, b, IMAGE);
+    if (!offered) return 0;
+    job->number = some_bit(offered);
+    memcpy(c, b, IMAGE);
+    if (base_try(p->bytes, p->len, c, IMAGE, job->number) >> 16 == kind) {
+      memcpy(job->image, b, IMAGE);
+      return 1;
+    }
+    memcpy(b, c, IMAGE);
+  }
+  return 0;
+}
+
+/* The job of a column; 0 where the plan has none. */
+static int make_job(const Plan *p, enum column column, Job *job) {
+  memset(job, 0, sizeof *job);
+  job->column = column;
+  if (column == COMMITTED) return find_try(p, 1, job);
+  if (column == CANCELLED) return find_try(p, 2, job);
+  if (column == OFFERED || column == SETTLE) base_start(p->bytes, p->len, job->image, IMAGE);
+  return 1;
+}
+
+static void load(const char *path, Plan *p) {
+  FILE *f = fopen(path, "rb");
+  if (!f) { perror(path); exit(2); }
+  p->len = fread(p->bytes, 1, sizeof p->bytes, f);
+  fclose(f);
+  if (base_check(p->bytes, p->len)) { fprintf(stderr, "%s is not a lawful plan\n", path); exit(2); }
+}
+
+static void make_cells(const Plan *p, Cell *row) {
+  for (int c = 0; c < COLUMNS; c++) {
+    row[c].there = make_job(p, c, &row[c].job);
+    for (int k = 0; k < ENGINES; k++) row[c].best[k] = 1e18;
+  }
+}
+
+static void time_cells(const Engine *e, int n, const Plan *p, int from, int to, Cell *row) {
+  for (int c = 0; c < COLUMNS; c++)
+    if (row[c].there) time_job(e, n, p, &row[c].job, from, to, row[c].best);
+}
+
+/* Fills the cells for the arguments ROUNDS PLAN..., in passes; gives the rounds of each. */
+static int measure(const Engine *e, int n, int argc, char **argv) {
+  int count = argc - 2, rounds = argc < 3 ? 0 : (atoi(argv[1]) + PASSES - 1) / PASSES;
+  if (rounds < 1 || count > PLANS) { fprintf(stderr, "usage: %s ROUNDS PLAN...\n", argv[0]); exit(2); }
+  for (int k = 0; k < count; k++) {
+    load(argv[2 + k], &plans[k]);
+    make_cells(&plans[k], cells[k]);
+  }
+  for (int from = 0; from < PASSES * rounds; from += rounds)
+    for (int k = 0; k < count; k++) time_cells(e, n, &plans[k], from, from + rounds, cells[k]);
+  return PASSES * rounds;
+}
+
+static void print_table(int argc, char **argv, void (*print)(const Cell *)) {
+  printf("| plan |");
+  for (int c = 0; c < COLUMNS; c++) printf(" %s |", columns[c]);
+  printf("\n|---|");
+  for (int c = 0; c < COLUMNS; c++) printf("---|");
+  for (int k = 2; k < argc; k++) {
+    printf("\n| %s |", basename(argv[k]));
+    for (int c = 0; c < COLUMNS; c++)
+      if (cells[k - 2][c].there) print(&cells[k - 2][c]);
+      else printf(" - |");
+  }
+  printf("\n");
+}
+#endif
