@@ -33,9 +33,13 @@ lowestOr none n f = let k = lowest n f in cond (ltb k n) k none
 unfoldable pub chosenBelow : Plan → State → ℕ → List ℕ
 chosenBelow p s n = table 256 (λ k. lowestOr (transitions p) n (ready p s (k / 16) (k % 16)))
 
+-- The transition that the table has for component c in interaction i.
+abbrev pub chosenBy : Plan → List ℕ → ℕ → ℕ → ℕ
+chosenBy p chosen i c = getD chosen (16 * c + portIn p i c) 0
+
 -- Component c takes no part in interaction i, or the table has a transition for its port.
 unfoldable pub portReady : Plan → List ℕ → ℕ → ℕ → Bool
-portReady p chosen i c = implies (takesPart p i c) (ltb (getD chosen (16 * c + portIn p i c) 0) (transitions p))
+portReady p chosen i c = implies (takesPart p i c) (ltb (chosenBy p chosen i c) (transitions p))
 
 -- Interaction i is in the mask, and none of the mask lies above it.
 unfoldable pub stands : Plan → ℕ → ℕ → Bool

@@ -20,7 +20,7 @@ use Rattle.semantics.proofs.LawfulImage.{configured, LawfulImage, lawful-image}
 use Rattle.lane.specs.declared.run.Run.{Run}
 use Rattle.lane.specs.Runs.{stateOf, configurationIn, runOf, loaded}
 use Rattle.engine.specs.declared.reading.Reading.{Reading}
-use Rattle.engine.specs.Known.{Known, Held}
+use Rattle.engine.specs.Known.{Known, ImageHolds}
 use Rattle.engine.proofs.CallLaws.{called-refused, called-offered, try-outside, try-disabled, try-outranked, try-marked, try-committed, try-cancelled, offer-mask, offer-open, safe-on-offer, settle-committed, settle-stalled, settle-penned}
 
 -- What a call knows of a lane that was read: its run record, and of it what the reading gave.
@@ -38,7 +38,7 @@ pub loaded-long : (b : Image) → length b ≡ imageLength → loaded b ≡ runO
 unfolding loaded
 loaded-long b e = rw (eq-eqb (length b) imageLength e) refl
 
-pub loaded-held : (b : Image) (run : Run) → run ≡ loaded b → Held b (configurationIn run) (run .marks)
+pub loaded-held : (b : Image) (run : Run) → run ≡ loaded b → ImageHolds b (configurationIn run) (run .marks)
 loaded-held b run e =
     record {
       configuration-is = λ l. ap (λ (r : Run). configurationIn r) (e ∙ loaded-long b l);
@@ -56,7 +56,7 @@ module _ {p : Plan} {b : Image} {run : Run} {x : Reading} (w : Read p b run x) w
     pub lawful : LawfulImage p b
     lawful = lawful-image p b none
 
-    held : Held b (configurationIn run) (run .marks)
+    held : ImageHolds b (configurationIn run) (run .marks)
     held = loaded-held b run (w .run-is)
 
     lane-is : configurationIn run ≡ configurationOf b

@@ -15,6 +15,6 @@ pub record Known (p : Plan) (s : State) (e : Reading) : Type 0 where
   pub eligible-is : e .eligible ≡ mask (interactions p) (eligible p s)
 
 -- The configuration and the marks are those that the image holds, where it has an image's length.
-pub record Held (b : Image) (c : Configuration) (m : ℕ) : Type 0 where
+pub record ImageHolds (b : Image) (c : Configuration) (m : ℕ) : Type 0 where
   pub configuration-is : length b ≡ imageLength → c ≡ configurationOf b
   pub marks-are : length b ≡ imageLength → m ≡ marksOf b

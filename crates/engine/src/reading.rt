@@ -20,7 +20,7 @@ ghost use Rattle.semantics.specs.Move.{eligible, oracleInRange};
 ghost use Rattle.semantics.specs.Image.{marksOk, imageRules};
 ghost use Rattle.choices.specs.Choices.{chosenTable};
 ghost use Rattle.lane.specs.Runs.{lent, Sized};
-ghost use Rattle.engine.specs.Known.{Known, Held};
+ghost use Rattle.engine.specs.Known.{Known, ImageHolds};
 
 // The first refusal of 1 to 14, and where that is 0 the enabled and the eligible interactions.
 pub struct Reading {
@@ -94,7 +94,7 @@ pub fn read<'a>(
     chosen: &mut [u16; 256],
 ) -> Reading
     requires { ⌜ checked ≡ planRefusal (now plan) ⌝ }
-    requires { ⌜ Held (now image) (lent (now locations) (now ports) (now values) oracle) marks × Sized (now locations) (now ports) (now values) ⌝ }
+    requires { ⌜ ImageHolds (now image) (lent (now locations) (now ports) (now values) oracle) marks × Sized (now locations) (now ports) (now values) ⌝ }
     requires { ⌜ (48 ≤ length (now plan) → now chosen ≡ replicate 256 (transitions (now plan))) ⌝ }
     ensures { λ r. ⌜ r .refusal ≡ refusal (planRules (now (plan .entry)) ++ imageRules (now (plan .entry)) (now (image .entry))) ⌝ }
     ensures { λ r. ⌜ (r .refusal ≡ 0 → now (chosen .exit) ≡ chosenTable (now (plan .entry)) (site (now (locations .entry)) (now (ports .entry)) (now (values .entry)))) ⌝ }

@@ -83,7 +83,7 @@ fn unpacked(image: &[u8]) -> Run
 }
 
 // No run.
-pub fn blank() -> Run
+fn blank() -> Run
     ensures { λ r. ⌜ r ≡ blankRun ⌝ }
 {
     Run {

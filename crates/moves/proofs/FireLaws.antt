@@ -18,9 +18,9 @@ use Rattle.semantics.specs.Move.{chosenIn, enabled, actedBelow, fired}
 use Rattle.semantics.proofs.Basics.{length-table, bool-cases, below-suc, ltb-true, ltb-false, eq-eqb, ne-eqb, table-is}
 use Rattle.semantics.proofs.OneMove.{uses}
 use Rattle.layout.proofs.Sections.{laid-accepted}
-use Rattle.choices.specs.Choices.{chosenTable}
+use Rattle.choices.specs.Choices.{chosenTable, chosenBy}
 use Rattle.lane.specs.Runs.{Sized}
-use Rattle.moves.specs.Parts.{chosenBy, AllChosen, actPart, actsBelow, setWhere, setBelow}
+use Rattle.moves.specs.Parts.{AllChosen, actPart, actsBelow, setWhere, setBelow}
 use Rattle.choices.proofs.PlanLaws.{part-lt}
 use Rattle.choices.proofs.ChoiceLaws.{chosen-at}
 

@@ -1,15 +1,12 @@
 -- One move, part by part: what the table of choices has the components of an interaction do, component 0 first.
 use mathlib.Core.Path.{_≡_}
-use Prim.Native.Nat.{ℕ, zero, suc, _+_, _*_, _<_}
+use Prim.Native.Nat.{ℕ, zero, suc, _<_}
 use mathlib.Core.Bool.{Bool, true, cond}
 use mathlib.Core.List.{List}
-use lib.ListN.{getD, set}
-use Rattle.semantics.specs.Plan.{Plan, maxComponents, transitions, actionOf, portIn, takesPart}
+use lib.ListN.{set}
+use Rattle.semantics.specs.Plan.{Plan, maxComponents, transitions, actionOf, takesPart}
 use Rattle.semantics.specs.Code.{State, acted}
-
--- The transition that the table has for component c in interaction i.
-abbrev pub chosenBy : Plan → List ℕ → ℕ → ℕ → ℕ
-chosenBy p chosen i c = getD chosen (16 * c + portIn p i c) 0
+use Rattle.choices.specs.Choices.{chosenBy}
 
 -- The table has a transition for each component that takes part in interaction i.
 pub record AllChosen (p : Plan) (chosen : List ℕ) (i : ℕ) : Type 0 where

@@ -15,9 +15,9 @@ ghost use lib.ListN.{length, getD};
 ghost use Rattle.semantics.specs.Plan.{maxComponents, maxVariables, components, interactions, destination, portIn, takesPart};
 ghost use Rattle.semantics.specs.Rules.{planRefusal};
 ghost use Rattle.semantics.specs.Move.{enabled, fired};
-ghost use Rattle.choices.specs.Choices.{chosenTable};
+ghost use Rattle.choices.specs.Choices.{chosenTable, chosenBy};
 ghost use Rattle.lane.specs.Runs.{Sized};
-ghost use Rattle.moves.specs.Parts.{chosenBy, AllChosen, actPart, actsBelow, setWhere, setBelow};
+ghost use Rattle.moves.specs.Parts.{AllChosen, actPart, actsBelow, setWhere, setBelow};
 ghost use Rattle.semantics.specs.Code.{site};
 
 fn wide(n: u16) -> usize

@@ -6,7 +6,7 @@ use words::bits;
 ghost use mathlib.Core.Path.{_≡_};
 ghost use mathlib.Core.Bool.{true};
 ghost use mathlib.Core.List.{[], _∷_};
-ghost use Prim.Native.Nat.{ℕ, _<_};
+ghost use Prim.Native.Nat.{ℕ, _≤_, _<_};
 ghost use Rattle.semantics.specs.Bytes.{allOf, lowest, bit};
 ghost use Rattle.semantics.specs.Plan.{interactions};
 ghost use Rattle.semantics.specs.Code.{site};
@@ -15,7 +15,7 @@ ghost use Rattle.semantics.specs.Move.{enabled, after, oracleInRange, good};
 ghost use Rattle.choices.specs.Choices.{chosenTable};
 ghost use Rattle.lane.specs.Runs.{lent, Sized};
 
-// A move and the oracle's state after it; where no move was found, the number of interactions.
+// A move and the oracle's state after it; where no move was found, the number of interactions and the oracle's state as it was.
 pub struct Found {
     pub number: usize,
     pub oracle: u8,
@@ -42,6 +42,7 @@ pub fn lowest_good<'a>(
     ensures { λ r. ⌜ Sized (now (places .exit)) (now (last .exit)) (now (numbers .exit)) ⌝ }
     ensures { λ r. ⌜ r .number ≡ lowest (interactions (now (plan .entry))) (λ j. allOf (bit moves j ∷ good (now (plan .entry)) (after (now (plan .entry)) (lent (now (locations .entry)) (now (ports .entry)) (now (values .entry)) oracle) j) ∷ [])) ⌝ }
     ensures { λ r. ⌜ (r .number < interactions (now (plan .entry)) → lent (now (places .exit)) (now (last .exit)) (now (numbers .exit)) (r .oracle) ≡ after (now (plan .entry)) (lent (now (locations .entry)) (now (ports .entry)) (now (values .entry)) oracle) (r .number)) ⌝ }
+    ensures { λ r. ⌜ (interactions (now (plan .entry)) ≤ r .number → lent (now (places .exit)) (now (last .exit)) (now (numbers .exit)) (r .oracle) ≡ lent (now (locations .entry)) (now (ports .entry)) (now (values .entry)) oracle) ⌝ }
 {
     let mut left = moves;
     while left != 0 {

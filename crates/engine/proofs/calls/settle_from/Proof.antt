@@ -119,7 +119,7 @@ returns-2 c =
     let e = k .before in
     let g = f .lowest-good in
     let w = parts (ends-settled (read e) (k .if1 .left) (word (loaded (e .before))) (g .result .number) (g .ensures .1 .0) (below t)) in
-    (w .0, st .store .ensures ∙ ap (λ (x : Configuration). image (begun (e .before) .args .plan .now) x 0) (g .ensures .1 .1 (below t)) ∙ w .1)
+    (w .0, st .store .ensures ∙ ap (λ (x : Configuration). image (begun (e .before) .args .plan .now) x 0) (g .ensures .1 .1 .0 (below t)) ∙ w .1)
 
 same-length-3 : tie.Need-same-length-3
 same-length-3 c = search needs

@@ -3,7 +3,8 @@ use Prim.Native.Nat.{_-_, _≤_}
 use mathlib.Core.Path.{_≡_, refl, ap, _∙_}
 use Rattle.layout.proofs.Sections.{laid-accepted}
 use Rattle.semantics.specs.Plan.{components, destination, portIn, takesPart}
-use Rattle.moves.specs.Parts.{chosenBy, setBelow}
+use Rattle.choices.specs.Choices.{chosenBy}
+use Rattle.moves.specs.Parts.{setBelow}
 use Rattle.moves.proofs.FireLaws.{set-below-next}
 use Rattle.moves.proofs.fire.arrive.Statement.{statement}
 use Rattle.moves.proofs.fire.arrive.Tie as tie

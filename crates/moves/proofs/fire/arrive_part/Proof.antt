@@ -1,7 +1,7 @@
 use Prim.Native.Nat.{ℕ, _+_, _<_}
 use mathlib.Core.Path.{_≡_, ap, _∙_, subst, sym}
 use lib.ListN.{getD}
-use Rattle.moves.specs.Parts.{chosenBy}
+use Rattle.choices.specs.Choices.{chosenBy}
 use Rattle.semantics.specs.Plan.{transitionAt, destination, portIn, takesPart}
 use Rattle.moves.proofs.FireLaws.{Takes, takes, takes-none, part-port-lt, set-yes, set-no}
 use Rattle.layout.proofs.Sections.{laid-accepted}

@@ -1,6 +1,6 @@
 use mathlib.Core.Path.{_≡_, refl, sym, ap, _∙_}
 use mathlib.Core.Bool.{Bool, true, not}
-use Prim.Native.Nat.{ℕ, _<_, _^_}
+use Prim.Native.Nat.{ℕ, _≤_, _<_, _^_}
 use native.Mathlib.Omega.{arith}
 use Rattle.semantics.specs.Bytes.{lowest, bit}
 use Rattle.semantics.specs.Plan.{interactions}
@@ -110,9 +110,15 @@ returns c =
         b .lowest-bit .ensures .0
             ∙ walk-found (s .args .moves) (interactions (s .args .plan .now)) (ends s) (l .loop .left) (l .loop .inv .0) (word s) (λ j t. s .pre .1 .1 .1 j t .0) (omega arith)
             (sym (judged g) ∙ c .if1 .taken),
-        λ _. a .after .ensures .1 .0 ∙ same l (b .lowest-bit .result),
+        (
+          λ _. a .after .ensures .1 .0 ∙ same l (b .lowest-bit .result),
+          λ q. absurd (not-below (s .pre .1 .1 .1 (b .lowest-bit .result) (named b) .0) q),
+        ),
       ),
     )
+  where
+    not-below : {m n : ℕ} → m < n → n ≤ m → ⊥
+    not-below h q = omega arith
 
 loop-less : tie.Need-loop-less Inv-loop μ-loop
 loop-less c = bits (c .before .before .before .before .before) .before .without-lowest .ensures .1
@@ -140,7 +146,10 @@ returns-2 c =
       (
         c .interactions .ensures .0
             ∙ walk-none (s .args .moves) (interactions (s .args .plan .now)) (ends s) (l .loop .left) (l .loop .inv .0) (omega arith),
-        λ q. absurd (not-below (c .interactions .ensures .0) q),
+        (
+          λ q. absurd (not-below (c .interactions .ensures .0) q),
+          λ _. ap (λ (x : State). record { state = x; oracle = s .args .oracle }) (l .loop .inv .1),
+        ),
       ),
     )
   where
