@@ -4,7 +4,7 @@ use mathlib.Core.Logic.{_⊎_, inl, inr, _↔_}
 use Prim.Native.Nat.{ℕ, _≤_, _<_}
 use native.Mathlib.Nat.{le-trans}
 use native.Mathlib.Omega.{arith}
-use mathlib.Core.Bool.{true, false, cond, _||_}
+use mathlib.Core.Bool.{Bool, true, false, cond, _||_}
 use mathlib.Core.List.{List}
 use lib.ListN.{length, getD, List·getD-eq-default}
 use lib.Seq.{ext-getD}
@@ -12,13 +12,14 @@ use lib.Dec.{ltb, eqb}
 use lib.IntN.{ℤ, pos}
 use Rattle.semantics.specs.Signed.{wrap}
 use Rattle.semantics.specs.Plan.{Plan, components, variables, locations, ports, owner}
-use Rattle.semantics.specs.Code.{State, ownedBy}
+use Rattle.semantics.specs.Code.{State, ownedBy, sharedIn}
 use Rattle.semantics.specs.Rules.{variableOk, planRefusal}
 use Rattle.semantics.specs.Move.{Configuration, oracleInRange}
 use Rattle.semantics.specs.Image.{locationOk, lastPortOk}
-use Rattle.bip.specs.Steps.{Local, restricted, component, Q}
+use Rattle.bip.specs.Steps.{Local, restrictedTo, restricted, component, Q}
 use Rattle.semantics.proofs.Basics.{bool-cases, or-cases, or-left, or-right, each, all-of, ltb-true, ltb-false, lt-ltb, le-ltb, eqb-true, eqb-same, eq-eqb, length-table, getD-table}
 use Rattle.semantics.proofs.AcceptedPlan.{accepted-plan, Counts, counts-of}
+use Rattle.semantics.proofs.Commute.{Agree}
 use Rattle.semantics.proofs.Evaluator.{low-word}
 use Rattle.semantics.proofs.Sound.{Sound}
 
@@ -38,40 +39,53 @@ pub owned-by-owner : (p : Plan) (v : ℕ) → v < variables p → ownedBy p (own
 unfolding ownedBy
 owned-by-owner p v l = all-of _ (lt-ltb _ _ l, (eqb-same (owner p v), tt))
 
-pub restricted-long : (p : Plan) (c : ℕ) (vs : List ℤ) → length (restricted p c vs) ≡ 64
-unfolding restricted
-restricted-long p c vs = length-table 64 (λ v. cond (ownedBy p c v) (getD vs v (pos 0)) (pos 0))
+module _ (names : ℕ → Bool) where
+  pub restricted-long : (vs : List ℤ) → length (restrictedTo names vs) ≡ 64
+  unfolding restrictedTo
+  restricted-long vs = length-table 64 (λ v. cond (names v) (getD vs v (pos 0)) (pos 0))
 
-restricted-at : (p : Plan) (c : ℕ) (vs : List ℤ) (v : ℕ) → v < 64 → getD (restricted p c vs) v (pos 0) ≡ cond (ownedBy p c v) (getD vs v (pos 0)) (pos 0)
-unfolding restricted
-restricted-at p c vs v l = getD-table 64 (λ v. cond (ownedBy p c v) (getD vs v (pos 0)) (pos 0)) (pos 0) v l
+  restricted-at : (vs : List ℤ) (v : ℕ) → v < 64 → getD (restrictedTo names vs) v (pos 0) ≡ cond (names v) (getD vs v (pos 0)) (pos 0)
+  unfolding restrictedTo
+  restricted-at vs v l = getD-table 64 (λ v. cond (names v) (getD vs v (pos 0)) (pos 0)) (pos 0) v l
 
--- a restriction holds the component's variables
-pub restricted-own : (p : Plan) → planRefusal p ≡ 0 → (c : ℕ) (vs : List ℤ) (v : ℕ) → ownedBy p c v ≡ true → getD (restricted p c vs) v (pos 0) ≡ getD vs v (pos 0)
-restricted-own p z c vs v o = restricted-at p c vs v (le-trans (owned p c v o .0) (counted p z .variables≤)) ∙ rw o refl
+  -- a restriction holds 0 outside its variables
+  pub restricted-other : (vs : List ℤ) (v : ℕ) → names v ≡ false → getD (restrictedTo names vs) v (pos 0) ≡ pos 0
+  restricted-other vs v o =
+      bool-cases (ltb v 64) (λ e. restricted-at vs v (ltb-true v 64 e) ∙ rw o refl)
+      (λ e. List·getD-eq-default (restrictedTo names vs) (pos 0) (subst (λ (n : ℕ). n ≤ v) (sym (restricted-long vs)) (ltb-false v 64 e)))
 
--- and 0 elsewhere
-pub restricted-other : (p : Plan) (c : ℕ) (vs : List ℤ) (v : ℕ) → ownedBy p c v ≡ false → getD (restricted p c vs) v (pos 0) ≡ pos 0
-restricted-other p c vs v o =
-    bool-cases (ltb v 64) (λ e. restricted-at p c vs v (ltb-true v 64 e) ∙ rw o refl)
-    (λ e. List·getD-eq-default (restricted p c vs) (pos 0) (subst (λ (n : ℕ). n ≤ v) (sym (restricted-long p c vs)) (ltb-false v 64 e)))
+  -- and is the only list of sixty-four places that does and holds its variables
+  pub restricted-is : (vs ws : List ℤ) → length ws ≡ 64 → ((v : ℕ) → names v ≡ true → getD vs v (pos 0) ≡ getD ws v (pos 0))
+      → ((v : ℕ) → names v ≡ false → getD ws v (pos 0) ≡ pos 0) → restrictedTo names vs ≡ ws
+  restricted-is vs ws long own other =
+      ext-getD (pos 0) (restrictedTo names vs) ws (restricted-long vs ∙ sym long)
+      (λ v l.
+      restricted-at vs v (subst (λ (n : ℕ). v < n) (restricted-long vs) l)
+      ∙ bool-cases (names v) (λ o. rw o (own v o)) (λ o. rw o (sym (other v o))))
 
--- and is the only list of sixty-four places that does
-pub restricted-is : (p : Plan) (c : ℕ) (vs ws : List ℤ) → length ws ≡ 64 → ((v : ℕ) → ownedBy p c v ≡ true → getD vs v (pos 0) ≡ getD ws v (pos 0))
-    → ((v : ℕ) → ownedBy p c v ≡ false → getD ws v (pos 0) ≡ pos 0) → restricted p c vs ≡ ws
-restricted-is p c vs ws long own other =
-    ext-getD (pos 0) (restricted p c vs) ws (restricted-long p c vs ∙ sym long)
-    (λ v l.
-    restricted-at p c vs v (subst (λ (n : ℕ). v < n) (restricted-long p c vs) l)
-    ∙ bool-cases (ownedBy p c v) (λ o. rw o (own v o)) (λ o. rw o (sym (other v o))))
+  module _ (few : (v : ℕ) → names v ≡ true → v < 64) where
+    -- a restriction holds its variables
+    pub restricted-own : (vs : List ℤ) (v : ℕ) → names v ≡ true → getD (restrictedTo names vs) v (pos 0) ≡ getD vs v (pos 0)
+    restricted-own vs v o = restricted-at vs v (few v o) ∙ rw o refl
 
--- restrictions are the same exactly when the component's variables are
-pub same-restricted : (p : Plan) → planRefusal p ≡ 0 → (c : ℕ) (vs ws : List ℤ)
-    → restricted p c vs ≡ restricted p c ws ↔ ((v : ℕ) → ownedBy p c v ≡ true → getD vs v (pos 0) ≡ getD ws v (pos 0))
-same-restricted p z c vs ws = (
-  (λ e v o. sym (restricted-own p z c vs v o) ∙ ap (λ (xs : List ℤ). getD xs v (pos 0)) e ∙ restricted-own p z c ws v o),
-  (λ f. restricted-is p c vs (restricted p c ws) (restricted-long p c ws) (λ v o. f v o ∙ sym (restricted-own p z c ws v o)) (restricted-other p c ws)),
-)
+    -- a valuation and its restriction agree on the variables
+    pub restricted-agrees : (vs : List ℤ) → length vs ≡ 64 → Agree names (restrictedTo names vs) vs
+    restricted-agrees vs long = record { same-length = restricted-long vs ∙ sym long; same-at = restricted-own vs }
+
+    -- restrictions are the same exactly when the variables are
+    pub same-restricted : (vs ws : List ℤ) → restrictedTo names vs ≡ restrictedTo names ws ↔ ((v : ℕ) → names v ≡ true → getD vs v (pos 0) ≡ getD ws v (pos 0))
+    same-restricted vs ws = (
+      (λ e v o. sym (restricted-own vs v o) ∙ ap (λ (xs : List ℤ). getD xs v (pos 0)) e ∙ restricted-own ws v o),
+      (λ f. restricted-is vs (restrictedTo names ws) (restricted-long ws) (λ v o. f v o ∙ sym (restricted-own ws v o)) (restricted-other ws)),
+    )
+
+-- the variables of a component and those of the components taking part are the plan's
+pub few-owned : (p : Plan) → planRefusal p ≡ 0 → (c v : ℕ) → ownedBy p c v ≡ true → v < 64
+few-owned p z c v o = le-trans (owned p c v o .0) (counted p z .variables≤)
+
+pub few-shared : (p : Plan) → planRefusal p ≡ 0 → (i v : ℕ) → sharedIn p i v ≡ true → v < 64
+unfolding sharedIn
+few-shared p z i v s = let (l, _) = each _ s in le-trans (ltb-true _ _ l) (counted p z .variables≤)
 
 -- ---- states
 
@@ -192,7 +206,7 @@ module _ (p : Plan) (z : planRefusal p ≡ 0) (q r : State) (a : Q p q) (b : Q p
       bool-cases (ltb v (variables p))
       (λ e.
       let k = ltb-true v (variables p) e in
-      same-restricted p z (owner p v) (q .values) (r .values) .0 (same-own (owner p v) (owner-known v k)) v (owned-by-owner p v k))
+      same-restricted (ownedBy p (owner p v)) (few-owned p z (owner p v)) (q .values) (r .values) .0 (same-own (owner p v) (owner-known v k)) v (owned-by-owner p v k))
       (λ e. a .no-value v (ltb-false _ _ e) ∙ sym (b .no-value v (ltb-false _ _ e))))
 
   -- 002 definition 7, Q = B_1.Q × .. × B_n.Q: a state is its components

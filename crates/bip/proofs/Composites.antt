@@ -3,24 +3,24 @@ use mathlib.Core.Path.{_≡_, refl, sym, ap, _∙_, subst}
 use mathlib.Core.Logic.{_↔_}
 use Prim.Native.Nat.{ℕ, zero, suc, _≤_, _<_}
 use native.Mathlib.Nat.{le-refl, le-trans, le-of-lt, lt-irrefl, not-suc-le-zero}
-use mathlib.Core.Bool.{true, false, cond}
+use mathlib.Core.Bool.{Bool, true, false, cond}
 use mathlib.Core.List.{List}
 use lib.ListN.{length, getD}
 use lib.Dec.{ltb, eqb}
 use lib.IntN.{ℤ, pos}
 use Rattle.semantics.specs.Bytes.{implies, lowest}
 use Rattle.semantics.specs.Signed.{holds}
-use Rattle.semantics.specs.Plan.{Plan, components, transitions, interactions, firstOracle, componentOf, guardOf, actionOf, portIn, takesPart, transferOf}
+use Rattle.semantics.specs.Plan.{Plan, Span, components, transitions, interactions, firstOracle, componentOf, guardOf, actionOf, portIn, takesPart, interactionGuard, transferOf}
 use Rattle.semantics.specs.Code.{State, valued, guardHolds, acted, asGuard, asUpdate, ownedBy, sharedIn, spanOk}
 use Rattle.semantics.specs.Rules.{planRefusal}
 use Rattle.semantics.specs.Move.{Configuration, ready, chosen, chosenIn, enabled, actedBelow, fired, judged, after}
-use Rattle.bip.specs.Steps.{Local, restricted, Able, Takes, Atomic, atomic, component, Q, received, Composite, fire, ByLowest, Chosen}
+use Rattle.bip.specs.Steps.{Local, restrictedTo, restricted, Able, Takes, Atomic, atomic, component, Q, attached, received, Composite, fire, ByLowest, Chosen}
 use Rattle.semantics.proofs.Basics.{bool-cases, absurd-bool, implies-yes, each, all-of, lt-ltb, eqb-true, eq-eqb, below-suc, every-all, ltb-true, lowest-is, lowest-unique, lowest-none}
-use Rattle.semantics.proofs.AcceptedPlan.{accepted-plan, guard-ok, action-ok, transfer-ok}
+use Rattle.semantics.proofs.AcceptedPlan.{accepted-plan, guard-ok, action-ok, interaction-guard-ok, transfer-ok}
 use Rattle.semantics.proofs.OneMove.{uses, uses-lowest, part-moves, other-stays}
 use Rattle.semantics.proofs.Sound.{sound-after}
 use Rattle.semantics.proofs.Commute.{Agree, local, frame, acted-long, one-owner}
-use Rattle.bip.proofs.Components.{counted, owned, restricted-long, restricted-own, restricted-other, restricted-is, same-restricted, state-of, sound-of, same-component, state-is-tuple}
+use Rattle.bip.proofs.Components.{counted, owned, few-owned, few-shared, restricted-long, restricted-other, restricted-is, restricted-agrees, same-restricted, state-of, sound-of, same-component, state-is-tuple}
 
 -- ---- atomic components
 
@@ -36,17 +36,17 @@ module _ (p : Plan) (z : planRefusal p ≡ 0) where
   own-action : (c t : ℕ) → t < transitions p → componentOf p t ≡ c → spanOk p asUpdate (ownedBy p c) (actionOf p t) ≡ true
   own-action c t l e = subst (λ (d : ℕ). spanOk p asUpdate (ownedBy p d) (actionOf p t) ≡ true) e (action-ok p (accepted-plan p z) t l)
 
-  -- a valuation and its restriction agree on the component's variables
-  restricted-agrees : (c : ℕ) (vs : List ℤ) → length vs ≡ 64 → Agree (ownedBy p c) (restricted p c vs) vs
-  restricted-agrees c vs long = record { same-length = restricted-long p c vs ∙ sym long; same-at = restricted-own p z c vs }
+  -- a guard asks a valuation restricted to the variables that it may name what it asks the whole state
+  restricted-guard : (names : ℕ → Bool) → ((v : ℕ) → names v ≡ true → v < 64) → (g : Span) → spanOk p asGuard names g ≡ true → (q : State) → length (q .values) ≡ 64
+      → guardHolds p (valued (restrictedTo names (q .values))) g ≡ guardHolds p q g
+  unfolding guardHolds
+  restricted-guard names few g ok q long =
+      ap (λ (xs : List ℤ). cond (eqb (g .size) 0) true (holds (getD xs 0 (pos 0))))
+      (local p asGuard names refl g ok (valued (restrictedTo names (q .values))) q (restricted-agrees names few (q .values) long) .0)
 
-  -- a guard of a component asks its own valuation what it asks the whole state
   same-guard : (q : State) → length (q .values) ≡ 64 → (c t : ℕ) → t < transitions p → componentOf p t ≡ c
       → guardHolds p (valued (restricted p c (q .values))) (guardOf p t) ≡ guardHolds p q (guardOf p t)
-  unfolding guardHolds
-  same-guard q long c t l e =
-      ap (λ (xs : List ℤ). cond (eqb (guardOf p t .size) 0) true (holds (getD xs 0 (pos 0))))
-      (local p asGuard (ownedBy p c) refl (guardOf p t) (own-guard c t l e) (valued (restricted p c (q .values))) q (restricted-agrees c (q .values) long) .0)
+  same-guard q long c t l e = restricted-guard (ownedBy p c) (few-owned p z c) (guardOf p t) (own-guard c t l e) q long
 
 module _ (p : Plan) (z : planRefusal p ≡ 0) (q : State) (h : Q p q) where
   able-ready : (c port t : ℕ) → Able p c port t (component p q c) → ready p q c port t ≡ true
@@ -72,6 +72,27 @@ module _ (p : Plan) (z : planRefusal p ≡ 0) (q : State) (h : Q p q) where
   able-exactly c port t = ((λ a. (a .known, able-ready c port t a)), (λ r. ready-able c port t (r .0) (r .1)))
 
   module _ (i : ℕ) (l : i < interactions p) where
+    -- ---- what an interaction reads
+
+    -- 002 definition 7, G_a(v(X)): the guard of an interaction sees no more than the variables of the components taking part
+    pub guard-sees : guardHolds p (attached p q i) (interactionGuard p i) ≡ guardHolds p q (interactionGuard p i)
+    unfolding attached
+    guard-sees = restricted-guard p z (sharedIn p i) (few-shared p z i) (interactionGuard p i) (interaction-guard-ok p (accepted-plan p z) i l) q (h .values-long)
+
+    own-shared : (c v : ℕ) → takesPart p i c ≡ true → ownedBy p c v ≡ true → sharedIn p i v ≡ true
+    unfolding sharedIn
+    own-shared c v t o = let (k, e) = owned p c v o in all-of _ (lt-ltb _ _ k, (rw e t, tt))
+
+    -- 002 definition 7, F_{a_i}(v(X)): nor does its transfer, in what a component taking part receives
+    pub transfer-sees : (c : ℕ) → takesPart p i c ≡ true → received p q i c ≡ restricted p c (acted p q (transferOf p i) .values)
+    unfolding received attached
+    transfer-sees c t =
+        same-restricted (ownedBy p c) (few-owned p z c) (acted p (valued (restrictedTo (sharedIn p i) (q .values))) (transferOf p i) .values)
+        (acted p q (transferOf p i) .values) .1
+        (λ v o.
+        local p asUpdate (sharedIn p i) refl (transferOf p i) (transfer-ok p (accepted-plan p z) i l) (valued (restrictedTo (sharedIn p i) (q .values))) q
+        (restricted-agrees (sharedIn p i) (few-shared p z i) (q .values) (h .values-long)) .1 .same-at v (own-shared c v t o))
+
     -- ---- the move is a step
 
     module _ (e : enabled p q i ≡ true) where
@@ -137,14 +158,16 @@ module _ (p : Plan) (z : planRefusal p ≡ 0) (q : State) (h : Q p q) where
       -- a component taking part computes from what it received
       part-computes : (c : ℕ) → c < components p → takesPart p i c ≡ true
           → restricted p c (fired p q i .values) ≡ acted p (valued (received p q i c)) (actionOf p (chosenIn p q i c)) .values
-      unfolding received turned transferred
+      unfolding turned transferred
       part-computes c k t =
           let g = actionOf p (chosenIn p q i c) in
           let vs : List ℤ = transferred .values in
           let got : State = valued (restricted p c vs) in
-          restricted-is p c (fired p q i .values) (acted p got g .values) (acted-long p got g ∙ restricted-long p c vs)
-          (λ v o. (fired-own c k v o ∙ rw t refl) ∙ sym (local p asUpdate (ownedBy p c) refl g (use-own c k t) got transferred (restricted-agrees p z c vs transferred-long) .1 .same-at v o))
-          (λ v o. frame p asUpdate (ownedBy p c) g (use-own c k t) got v o ∙ restricted-other p c vs v o)
+          rw (transfer-sees c t)
+          (restricted-is (ownedBy p c) (fired p q i .values) (acted p got g .values) (acted-long p got g ∙ restricted-long (ownedBy p c) vs)
+          (λ v o. (fired-own c k v o ∙ rw t refl)
+          ∙ sym (local p asUpdate (ownedBy p c) refl g (use-own c k t) got transferred (restricted-agrees (ownedBy p c) (few-owned p z c) vs transferred-long) .1 .same-at v o))
+          (λ v o. frame p asUpdate (ownedBy p c) g (use-own c k t) got v o ∙ restricted-other (ownedBy p c) vs v o))
 
       not-shared : (c v : ℕ) → takesPart p i c ≡ false → ownedBy p c v ≡ true → sharedIn p i v ≡ false
       unfolding sharedIn
@@ -155,7 +178,7 @@ module _ (p : Plan) (z : planRefusal p ≡ 0) (q : State) (h : Q p q) where
       other-keeps : (c : ℕ) → c < components p → takesPart p i c ≡ false → restricted p c (fired p q i .values) ≡ restricted p c (q .values)
       unfolding turned transferred
       other-keeps c k t =
-          same-restricted p z c (fired p q i .values) (q .values) .1
+          same-restricted (ownedBy p c) (few-owned p z c) (fired p q i .values) (q .values) .1
           (λ v o. (fired-own c k v o ∙ rw t refl) ∙ frame p asUpdate (sharedIn p i) (transferOf p i) (transfer-ok p (accepted-plan p z) i l) q v (not-shared c v t o))
 
       begun : Configuration
@@ -201,7 +224,7 @@ module _ (p : Plan) (z : planRefusal p ≡ 0) (q : State) (h : Q p q) where
       unfolding enabled
       move-is-step =
           record {
-            step = fire l (each _ e .0) (λ c k t. atomic (chosenIn p q i c) (part-takes c k t)) other-same fired-state;
+            step = fire l (guard-sees ∙ each _ e .0) (λ c k t. atomic (chosenIn p q i c) (part-takes c k t)) other-same fired-state;
             picks = λ c k t. record { transition = chosenIn p q i c; takes = part-takes c k t; lowest = used-lowest c };
           }
 
@@ -220,7 +243,7 @@ module _ (p : Plan) (z : planRefusal p ≡ 0) (q : State) (h : Q p q) where
     unfolding enabled
     step-enabled q' (fire k g parts others state) =
         all-of _ (
-          g,
+          sym guard-sees ∙ g,
           (
             every-all (components p) (λ c. implies (takesPart p i c) (ltb (chosenIn p q i c) (transitions p)))
                 (λ c m. implies-yes (takesPart p i c) (ltb (chosenIn p q i c) (transitions p)) (λ t. lt-ltb _ _ (found c (parts c m t)))),

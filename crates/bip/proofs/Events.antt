@@ -1,51 +1,27 @@
 -- Events and verdicts: every state has one event, and 01's good and bad are the oracle's verdicts (000 section 4.3, 002 definition 14).
 use mathlib.Core.Path.{_≡_, refl, sym, ap, _∙_, subst}
 use mathlib.Core.Logic.{_↔_, inl, inr}
-use Prim.Native.Nat.{ℕ, zero, suc, _+_, _*_, _/_, _%_, _^_, _<_}
-use native.Mathlib.Nat.{pow-suc, le-trans}
-use native.Mathlib.Omega.{arith}
+use Prim.Native.Nat.{ℕ, _<_}
+use native.Mathlib.Nat.{le-trans}
 use mathlib.Core.Bool.{true, false, not, cond}
 use lib.Seq.{ext-getD}
-use lib.Dec.{ltb, eqb}
+use lib.Dec.{ltb}
 use lib.IntN.{ℤ, pos}
-use Rattle.semantics.specs.Bytes.{bit, mask, table}
+use Rattle.semantics.specs.Bytes.{bit, table}
 use Rattle.semantics.specs.Plan.{Plan, components, variables, propositions, firstOracle, propositionOf, startLocation, startValue, next}
 use Rattle.semantics.specs.Code.{State, guardHolds}
 use Rattle.semantics.specs.Rules.{planRefusal}
 use Rattle.semantics.specs.Move.{Configuration, letter, judged, oracleInRange, oracleGood, good, initialState, initial}
 use Rattle.bip.specs.Steps.{Init}
 use Rattle.bip.specs.Monitor.{Letter, Satisfies, Reads, reads, Allows, Forbids, Begins}
-use Rattle.semantics.proofs.Basics.{bool-cases, absurd-bool, not-no, eqb-true, eq-eqb, eqb-false, ltb-true, ltb-false, lt-ltb, length-table, getD-table}
-use Rattle.semantics.proofs.Masks.{bit-mask, mask-same}
+use Rattle.semantics.proofs.Basics.{bool-cases, absurd-bool, not-no, eqb-true, eq-eqb, ltb-true, ltb-false, lt-ltb, length-table, getD-table}
+use Rattle.semantics.proofs.Masks.{bit-mask, mask-same, mask-bits}
 use Rattle.semantics.proofs.AcceptedPlan.{accepted-plan, Counts, counts-of}
 use Rattle.semantics.proofs.Sound.{letter-lt, sound-initial}
 use Rattle.bip.proofs.Components.{state-of}
 use Rattle.bip.proofs.SafetyProperty.{allows-or-forbids, not-both}
 
 -- ---- events
-
--- a number is its lowest binary digit and twice its half
-digit-back : (m : ℕ) → cond (eqb (m % 2) 1) 1 0 + 2 * (m / 2) ≡ m
-digit-back m =
-    bool-cases (eqb (m % 2) 1) (λ e. let h : m % 2 ≡ 1 = eqb-true (m % 2) 1 e in rw e (odd m h)) (λ e. rw e (even m (eqb-false (m % 2) 1 e)))
-  where
-    odd : (m : ℕ) → m % 2 ≡ 1 → 1 + 2 * (m / 2) ≡ m
-    odd m h = omega arith
-
-    even : (m : ℕ) → (m % 2 ≡ 1 → ⊥) → 0 + 2 * (m / 2) ≡ m
-    even m h = omega arith
-
--- a number below 2 ^ n is the mask of its bits
-mask-bits : (n m : ℕ) → m < 2 ^ n → mask n (bit m) ≡ m
-unfolding mask bit
-mask-bits zero m h = omega arith
-mask-bits (suc n) m h =
-    let e : 2 * 2 ^ n ≡ 2 ^ suc n = omega (arith, pow-suc 2 n) in
-    let l : m < 2 * 2 ^ n = subst (λ (x : ℕ). m < x) (sym e) h in
-    ap (λ (k : ℕ). cond (eqb (m % 2) 1) 1 0 + 2 * k) (mask-bits n (m / 2) (half m (2 ^ n) l)) ∙ digit-back m
-  where
-    half : (m x : ℕ) → m < 2 * x → m / 2 < x
-    half m x l = omega arith
 
 -- 000 section 4.3: every state has an event, the engine's letter
 pub event-of : (p : Plan) (q : State) → Satisfies p q (letter p q, letter-lt p q)
@@ -77,7 +53,7 @@ module _ (p : Plan) (ok : planRefusal p ≡ 0) where
     (λ a. bool-cases (good p c) (λ g. g) (λ g. absurd (not-both p (c .oracle) a (bad-forbids p c .0 g)))),
   )
 
-  -- 000 section 4.3: the engine's starting configuration is a judged beginning
+  -- 000 section 5.5, remark 2: the engine's starting configuration is a judged beginning
   pub initial-begins : Begins p (initial p)
   unfolding initial judged initialState
   initial-begins =
@@ -132,7 +108,7 @@ pub one-initial-state : (p : Plan) (q : State) → Init p q → q ≡ initialSta
 one-initial-state p q h =
     λ i. record { locations = initial-locations p q h i; lastPorts = initial-ports p q h i; values = initial-values p q h i }
 
--- 000 section 4.3: every judged beginning is the engine's starting configuration
+-- 000 section 5.5, remark 2: every judged beginning is the engine's starting configuration
 pub begins-initial : (p : Plan) (c : Configuration) → Begins p c → c ≡ initial p
 unfolding initial judged
 begins-initial p c h =

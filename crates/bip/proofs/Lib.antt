@@ -1,7 +1,14 @@
 pub mod Components
 pub mod Composites
+pub mod Disabling
+pub mod Enforcement
 pub mod Events
+pub mod KnownImage
 pub mod MonitorRules
 pub mod Priorities
+pub mod Runs
 pub mod SafetyProperty
+pub mod Settling
+pub mod SupervisedSteps
 pub mod Traces
+pub mod Trying

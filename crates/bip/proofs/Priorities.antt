@@ -12,19 +12,26 @@ use Rattle.semantics.proofs.Basics.{bool-cases, absurd-bool}
 use Rattle.semantics.proofs.Ranking.{outranked-exactly, eligible-enabled, eligible-top, eligible-from}
 use Rattle.bip.proofs.Composites.{move-is-step, step-enabled, chosen-exactly}
 
+-- an interaction that has a step is one of the plan's
+pub composite-low : {p : Plan} {q q' : State} {i : ℕ} → Composite p q i q' → i < interactions p
+composite-low (fire l g parts others state) = l
+
+pub step-low : {p : Plan} {q q' : State} {i : ℕ} → EngineStep p q i q' → i < interactions p
+step-low s = go (s .ranked-step)
+  where
+    go : {p : Plan} {q q' : State} {i : ℕ} → Ranked p q i q' → i < interactions p
+    go (ranked m none) = composite-low m
+
 module _ (p : Plan) (z : planRefusal p ≡ 0) (q : State) (h : Q p q) (i : ℕ) (l : i < interactions p) where
   -- 002 definition 8, the premise: not outranked exactly when no interaction above has a step
   pub priority-premise : outranked p q i ≡ false ↔ ((j : ℕ) (q'' : State) → Below p i j → Composite p q j q'' → ⊥)
   priority-premise = (
-    (λ n j q'' b s. absurd-bool (outranked-exactly p q i .1 (j, inside j q'' s, b, step-enabled p z q h j (inside j q'' s) q'' s)) n),
+    (λ n j q'' b s. absurd-bool (outranked-exactly p q i .1 (j, composite-low s, b, step-enabled p z q h j (composite-low s) q'' s)) n),
     (λ none.
         bool-cases (outranked p q i)
         (λ o. let (j, k, b, e) = outranked-exactly p q i .0 o in absurd (none j (fired p q j) b (move-is-step p z q h j k e .step)))
         (λ o. o)),
   )
-    where
-      inside : (j : ℕ) (q'' : State) → Composite p q j q'' → j < interactions p
-      inside j q'' (fire k g parts others state) = k
 
   ranked-eligible : (q' : State) → Ranked p q i q' → eligible p q i ≡ true
   ranked-eligible q' (ranked s none) = eligible-from p q i (step-enabled p z q h i l q' s) (priority-premise .1 none)

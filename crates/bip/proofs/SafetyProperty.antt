@@ -1,18 +1,18 @@
 -- A lawful oracle table denotes a safety property, which is 1-step tolerant: 002 section 4, definition 11 and proposition 2.
-use mathlib.Core.Path.{_≡_, refl, sym, subst}
+use mathlib.Core.Path.{_≡_, refl, sym, ap, subst}
 use mathlib.Core.Logic.{_⊎_, inl, inr}
 use Prim.Native.Nat.{ℕ, zero, suc, _≤_}
 use native.Mathlib.Nat.{le-refl}
 use native.Mathlib.Omega.{arith}
 use mathlib.Core.Bool.{true}
-use mathlib.Core.List.{List, [], _∷_, _++_}
+use mathlib.Core.List.{List, [], _∷_, _++_, cons-ne-nil}
 use lib.Dec.{eqb}
 use Rattle.semantics.specs.Bytes.{implies}
 use Rattle.semantics.specs.Plan.{Plan, oracleStates, firstOracle, letters, verdict}
 use Rattle.semantics.specs.Rules.{verdictOk, followerOk, oracleOk, planRefusal}
 use Rattle.semantics.specs.Move.{oracleInRange}
 use Rattle.bip.specs.Steps.{Path, here, further}
-use Rattle.bip.specs.Property.{Property, false-for-good, currently-false, true-for-good, Evaluates, always, not-yet, never, Safety, Tolerant}
+use Rattle.bip.specs.Property.{Property, false-for-good, currently-false, true-for-good, Evaluates, always, so-far, not-yet, never, Safety, Tolerant}
 use Rattle.bip.specs.Monitor.{Letter, Reads, reads, Allows, Forbids, Denotes}
 use Rattle.semantics.proofs.Basics.{each, every-at, implies-at, not-yes, ltb-true, leb-true, eqb-true, eq-eqb, eqb-false}
 use Rattle.semantics.proofs.AcceptedPlan.{accepted-plan, counts-of}
@@ -28,6 +28,18 @@ never-currently-false Π safe σ (not-yet out σ' in-later) = out (safe σ σ' i
 pub safety-tolerant : {E : Type 0} (Π : Property E) → Safety Π → Tolerant 1 Π
 safety-tolerant Π safe [] σ' now-true deviates = le-refl 1
 safety-tolerant Π safe (a ∷ σ) σ' now-true deviates = absurd (never-currently-false Π safe (σ' ++ (a ∷ [])) (deviates a [] σ refl))
+
+-- 002 proposition 2 prints an equality. The other inclusion does not follow from definition 11: the property of all non-empty sequences is 1-step
+-- tolerant, for no sequence is currently true of it,
+abbrev pub NonEmpty : (E : Type 0) → Property E
+NonEmpty E σ = (a : E) × (σ' : List E) × (σ ≡ a ∷ σ')
+
+pub non-empty-tolerant : (E : Type 0) → Tolerant 1 (NonEmpty E)
+non-empty-tolerant E σ σ' (so-far (a, rest, e) later out) deviates = absurd (out (a, rest ++ later, ap (_++ later) e))
+
+-- and it is no safety property, where there is an event.
+pub non-empty-not-safety : {E : Type 0} → E → Safety (NonEmpty E) → ⊥
+non-empty-not-safety a safe = let (b, σ, e) = safe [] (a ∷ []) (a, [], refl) in cons-ne-nil _ _ (sym e)
 
 -- ---- paths
 
@@ -136,7 +148,8 @@ module _ (p : Plan) (accepted : planRefusal p ≡ 0) where
   pub denotes-tolerant : Tolerant 1 (Denotes p)
   denotes-tolerant = safety-tolerant (Denotes p) denotes-safety
 
-  -- 002 section 4 and definition 14, for the state that the oracle reaches on σ: 3 is ⊤, 0 is ⊥, and 2 is in the property.
+  -- 002 section 4 and definition 14, for the state that the oracle reaches on σ: 3 is ⊤ and 0 is ⊥. 2 says only that σ is in the property: a table may
+  -- give 2 where every continuation stays good.
   pub verdict-is : (σ : List (Letter p)) (θ : ℕ) → Path (Reads p) (firstOracle p) σ θ → Judges p σ θ
   verdict-is σ θ r = record { on-3 = on-three; on-0 = on-zero; on-2 = λ v. (θ, r, inr v) }
     where

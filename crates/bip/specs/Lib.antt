@@ -1,3 +1,4 @@
+pub mod Disabler
 pub mod Monitor
 pub mod Property
 pub mod Steps

@@ -8,7 +8,7 @@ use Rattle.semantics.specs.Bytes.{bit}
 use Rattle.semantics.specs.Plan.{Plan, propositions, firstOracle, letters, propositionOf, verdict, next}
 use Rattle.semantics.specs.Code.{State, guardHolds}
 use Rattle.semantics.specs.Move.{Configuration}
-use Rattle.bip.specs.Steps.{Init, Path}
+use Rattle.bip.specs.Steps.{EngineStep, Init, Path, Trace, endOf}
 use Rattle.bip.specs.Property.{Property}
 
 -- ---- events: 000 section 4.3
@@ -17,7 +17,7 @@ use Rattle.bip.specs.Property.{Property}
 abbrev pub Letter : Plan → Type 0
 Letter p = (e : ℕ) × (e < letters p)
 
--- q ⊨ e: the propositions of e are those that hold in q. Every state has one event, so the instrumentation of 002 never yields ε.
+-- q ⊨ e: the propositions of e are those that hold in q. Every state has one event (`event-of`, `event-once`), and 01 has it read after every move.
 abbrev pub Satisfies : (p : Plan) → State → Letter p → Type 0
 Satisfies p q e = (k : ℕ) → k < propositions p → bit (e .0) k ≡ guardHolds p q (propositionOf p k)
 
@@ -67,6 +67,12 @@ pub data Label : Type 0 where
   did : ℕ → Label
   ε : Label
 
+-- The interactions done, without the ε.
+unfoldable pub doneIn : List Label → List ℕ
+doneIn [] = []
+doneIn (did i ∷ ls) = i ∷ doneIn ls
+doneIn (ε ∷ ls) = doneIn ls
+
 -- ⟨q, θ⟩
 abbrev pub pair : State → ℕ → Configuration
 pair q θ = record { state = q; oracle = θ }
@@ -76,7 +82,8 @@ abbrev pub System : Type 1
 System = State → ℕ → State → Type 0
 
 -- The composition of a system with the monitor, for the interaction i that the system performs. Rule 2 commits; rule 3 cancels, with state and
--- monitor as they were. Rule 1, for a step without an event, has no instance here.
+-- monitor as they were. Rule 1 is for a step of which the instrumentation makes no event; it has no instance here, since 01 decides that an event is read
+-- after every move.
 pub data Monitored (p : Plan) (system : System) (i : ℕ) : Configuration → Label → Configuration → Type 0 where
   rule-2 : {q q' : State} {θ θ' : ℕ} {e : Letter p} → system q i q' → Satisfies p q' e → Enforces p (stable θ) (event e) (committing θ e)
       → Enforces p (committing θ e) commit (stable θ') → Monitored p system i (pair q θ) (did i) (pair q' θ')
@@ -87,7 +94,8 @@ pub data Monitored (p : Plan) (system : System) (i : ℕ) : Configuration → La
 abbrev pub MonitoredStep : Plan → System → Configuration → Label → Configuration → Type 0
 MonitoredStep p system c l d = (i : ℕ) × Monitored p system i c l d
 
--- 000 section 4.3: the run begins judged. The starting state's event is read from the oracle's first state.
+-- 01: "The oracle also reads the starting state's event (000), so a run begins judged"; 000 section 5.5, remark 2, has the monitor evaluate the initial
+-- state.
 pub record Begins (p : Plan) (c : Configuration) : Type 0 where
   pub initial-state : Init p (c .state)
   pub first-event : Letter p
@@ -96,31 +104,53 @@ pub record Begins (p : Plan) (c : Configuration) : Type 0 where
 
 -- ---- traces: 002 corollary 1
 
--- stutter-free(σ): the interactions done, without the ε.
-unfoldable pub stutter-free : List Label → List ℕ
+-- σ↓: the trace σ of the composition without the states of the monitor.
+unfoldable pub erased : List (Label × Configuration) → List (Label × State)
+erased [] = []
+erased ((l, c) ∷ σ) = (l, c .state) ∷ erased σ
+
+-- stutter-free(σ↓): the states that follow an ε are removed, with it.
+unfoldable pub stutter-free : {S : Type 0} → List (Label × S) → List (ℕ × S)
 stutter-free [] = []
-stutter-free (did i ∷ ls) = i ∷ stutter-free ls
-stutter-free (ε ∷ ls) = stutter-free ls
+stutter-free ((did i, q) ∷ σ) = (i, q) ∷ stutter-free σ
+stutter-free ((ε, q) ∷ σ) = stutter-free σ
 
--- A step of a system with the event of the state that it leads to: inst((a, q')) = e.
-pub record Observed (p : Plan) (system : System) (q : State) (l : ℕ × Letter p) (q' : State) : Type 0 where
-  pub moves : system q (l .0) q'
-  pub shows : Satisfies p q' (l .1)
+-- inst(σ): the event of each state that an interaction led to, inst((a, q')) = e. A step back (ε) leads to no new state, and shows none.
+pub data Shows (p : Plan) : List (ℕ × State) → List (Letter p) → Type 0 where
+  ended : Shows p [] []
+  shown : {i : ℕ} {q : State} {e : Letter p} {σ : List (ℕ × State)} {es : List (Letter p)} → Satisfies p q e → Shows p σ es → Shows p ((i, q) ∷ σ) (e ∷ es)
 
--- The interactions and the events of an observed path.
-abbrev pub interactionsOf : {E : Type 0} → List (ℕ × E) → List ℕ
-interactionsOf {E} ls = map (λ (l : ℕ × E). l .0) ls
+-- The interactions of a trace.
+abbrev pub interactionsOf : {S : Type 0} → List (ℕ × S) → List ℕ
+interactionsOf {S} σ = map (λ (m : ℕ × S). m .0) σ
 
-abbrev pub eventsOf : {E : Type 0} → List (ℕ × E) → List E
-eventsOf {E} ls = map (λ (l : ℕ × E). l .1) ls
+-- Corollary 1, of a trace σ of the composition from c, with the event of c's state first.
+pub record Enforced (p : Plan) (system : System) (c : Configuration) (first : Letter p) (σ : List (Label × Configuration)) : Type 0 where
+  -- σ has its events,
+  pub events : (es : List (Letter p)) × Shows p (stutter-free (erased σ)) es
+  -- inst(σ) ∈ Π,
+  pub in-property : (es : List (Letter p)) → Shows p (stutter-free (erased σ)) es → Denotes p (first ∷ es)
+  -- stutter-free(σ↓) ∈ traces(L),
+  pub of-system : Trace system (c .state) (stutter-free (erased σ))
+  -- and it ends where σ does.
+  pub ends : endOf (c .state) (stutter-free (erased σ)) ≡ endOf c σ .state
 
--- A run of the system through the interactions is, from q to q', whose events after the first one keep in the property (001 definition 12, 002
--- corollary 1)
+-- A run of the system through the interactions is, from q to q', whose events behind the first one keep in the property (001 definition 12, 002
+-- corollary 1).
 pub record AllowedRun (p : Plan) (system : System) (q : State) (first : Letter p) (is : List ℕ) (q' : State) : Type 0 where
-  pub labels : List (ℕ × Letter p)
-  pub through : interactionsOf labels ≡ is
-  pub steps : Path (Observed p system) q labels q'
-  pub in-property : Denotes p (first ∷ eventsOf labels)
+  pub trace : List (ℕ × State)
+  pub through : interactionsOf trace ≡ is
+  pub steps : Trace system q trace
+  pub ends : endOf q trace ≡ q'
+  pub events : List (Letter p)
+  pub shows : Shows p trace events
+  pub in-property : Denotes p (first ∷ events)
+
+-- A run of the ranked system by 01's choice, from a judged beginning to the state q', that keeps in the oracle's property.
+pub record EngineRun (p : Plan) (is : List ℕ) (q' : State) : Type 0 where
+  pub first : Configuration
+  pub begins : Begins p first
+  pub run : AllowedRun p (EngineStep p) (first .state) (begins .first-event) is q'
 
 -- 002 proposition 3, simulation: its three conditions on a relation R between the composition's states and the system's
 pub record Simulates (p : Plan) (system : System) (R : Configuration → State → Type 0) (r₀ : Configuration) (s₀ : State) : Type 0 where

@@ -3,14 +3,14 @@
 use mathlib.Core.Path.{_≡_}
 use mathlib.Core.Logic.{_⊎_}
 use Prim.Native.Nat.{ℕ, _≤_, _<_}
-use mathlib.Core.Bool.{true, false, cond}
+use mathlib.Core.Bool.{Bool, true, false, cond}
 use mathlib.Core.List.{List, [], _∷_}
 use lib.ListN.{length, getD}
 use lib.IntN.{ℤ, pos}
 use Rattle.semantics.specs.Bytes.{table}
 use Rattle.semantics.specs.Signed.{wrap}
 use Rattle.semantics.specs.Plan.{Plan, maxComponents, maxVariables, noPort, components, variables, transitions, interactions, locations, ports, startLocation, startValue, componentOf, source, portOf, destination, guardOf, actionOf, portIn, takesPart, interactionGuard, transferOf, below}
-use Rattle.semantics.specs.Code.{State, valued, guardHolds, acted, ownedBy}
+use Rattle.semantics.specs.Code.{State, valued, guardHolds, acted, ownedBy, sharedIn}
 
 -- ---- atomic components: 001 and 002, definitions 2 and 3
 
@@ -21,9 +21,13 @@ pub record Local : Type 0 where
   pub valuation : List ℤ
   pub lastPort : ℕ
 
+-- The valuation v restricted to a set of variables: 0 in the others' places.
+unfoldable pub restrictedTo : (ℕ → Bool) → List ℤ → List ℤ
+restrictedTo names v = table maxVariables (λ x. cond (names x) (getD v x (pos 0)) (pos 0))
+
 -- The valuation v restricted to the variables of component c.
-unfoldable pub restricted : Plan → ℕ → List ℤ → List ℤ
-restricted p c v = table maxVariables (λ x. cond (ownedBy p c x) (getD v x (pos 0)) (pos 0))
+abbrev pub restricted : Plan → ℕ → List ℤ → List ℤ
+restricted p c v = restrictedTo (ownedBy p c) v
 
 -- Definition 3, the condition on the transition: there is τ = ⟨l, port, l'⟩ of component c with g_τ(v).
 pub record Able (p : Plan) (c port t : ℕ) (q : Local) : Type 0 where
@@ -63,14 +67,19 @@ pub record Q (p : Plan) (s : State) : Type 0 where
   pub no-port : (c : ℕ) → components p ≤ c → c < maxComponents → getD (s .lastPorts) c 0 ≡ noPort
   pub no-value : (v : ℕ) → variables p ≤ v → getD (s .values) v (pos 0) ≡ pos 0
 
--- v / v_i with v_i = F_{a_i}(v(X)): what component c holds of the old valuation after the transfer of interaction i.
-unfoldable pub received : Plan → State → ℕ → ℕ → List ℤ
-received p q i c = restricted p c (acted p q (transferOf p i) .values)
+-- v(X): the global valuation restricted to X, the variables of the components taking part in interaction i. It is all that the interaction's guard and
+-- transfer are run on.
+unfoldable pub attached : Plan → State → ℕ → State
+attached p q i = valued (restrictedTo (sharedIn p i) (q .values))
 
--- Definition 7, the rule: the guard holds of the old valuation; each component of the interaction takes a step of its own with the transferred
+-- v / v_i with v_i = F_{a_i}(v(X)): what component c, taking part, holds of the old valuation after the transfer of interaction i.
+unfoldable pub received : Plan → State → ℕ → ℕ → List ℤ
+received p q i c = restricted p c (acted p (attached p q i) (transferOf p i) .values)
+
+-- Definition 7, the rule: G_a(v(X)) holds of the old valuation; each component of the interaction takes a step of its own with the transferred
 -- values; each other component stays as it is.
 pub data Composite (p : Plan) (q : State) (i : ℕ) (q' : State) : Type 0 where
-  fire : i < interactions p → guardHolds p q (interactionGuard p i) ≡ true
+  fire : i < interactions p → guardHolds p (attached p q i) (interactionGuard p i) ≡ true
       → ((c : ℕ) → c < components p → takesPart p i c ≡ true → Atomic p c (portIn p i c) (component p q c) (received p q i c) (component p q' c))
       → ((c : ℕ) → c < components p → takesPart p i c ≡ false → component p q' c ≡ component p q c)
       → Q p q' → Composite p q i q'
@@ -116,6 +125,16 @@ pub record Init (p : Plan) (q : State) : Type 0 where
 pub data Path {S L : Type 0} (step : S → L → S → Type 0) : S → List L → S → Type 0 where
   here : {s : S} → Path step s [] s
   further : {s t u : S} {l : L} {ls : List L} → step s l t → Path step t ls u → Path step s (l ∷ ls) u
+
+-- A trace of a labelled transition system from s: each label with the state that it leads to.
+pub data Trace {S L : Type 0} (step : S → L → S → Type 0) : S → List (L × S) → Type 0 where
+  still : {s : S} → Trace step s []
+  onward : {s t : S} {l : L} {σ : List (L × S)} → step s l t → Trace step t σ → Trace step s ((l, t) ∷ σ)
+
+-- The state in which a trace from s ends.
+unfoldable pub endOf : {S L : Type 0} → S → List (L × S) → S
+endOf s [] = s
+endOf s (m ∷ σ) = endOf (m .1) σ
 
 -- Definition 12: a run of length m is q^0 = Init and m steps under the priorities; `is` are its interactions, q its last state.
 pub record RankedRun (p : Plan) (is : List ℕ) (q : State) : Type 0 where

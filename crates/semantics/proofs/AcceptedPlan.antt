@@ -1,12 +1,16 @@
 -- What an accepted plan keeps, rule by rule: from `planRefusal p ≡ 0`.
 use mathlib.Core.Path.{_≡_, refl}
 use Prim.Native.Nat.{ℕ, _≤_, _<_}
-use mathlib.Core.Bool.{true}
+use native.Mathlib.Nat.{lt-of-lt-of-le}
+use mathlib.Core.Bool.{Bool, true}
+use lib.Pow.{pow-mono}
+use Rattle.semantics.specs.Bytes.{mask}
 use Rattle.semantics.specs.Plan.{Plan, maxComponents, maxVariables, maxInteractions, components, variables, transitions, interactions, propositions, oracleStates, firstOracle, componentOf, guardOf, actionOf, interactionGuard, transferOf, propositionOf}
 use Rattle.semantics.specs.Code.{asGuard, asUpdate, asProposition, ownedBy, sharedIn, declared, spanOk}
 use Rattle.semantics.specs.Rules.{headOk, countsOk, layoutOk, componentOk, variableOk, transitionOk, interactionOk, rankOk, oracleOk, codeOk, transitionCode, interactionCode, propositionCode, planRules, planRefusal, within}
 use Rattle.semantics.specs.Move.{oracleInRange}
 use Rattle.semantics.proofs.Basics.{each, every-at, leb-true}
+use Rattle.semantics.proofs.Masks.{mask-lt}
 use Rattle.semantics.proofs.Refusing.{numbered}
 use Rattle.semantics.proofs.RuleLists.{keeps, rule-kept}
 
@@ -65,6 +69,11 @@ counts-of p e =
       propositions≤ = leb-true _ _ o;
       first = f;
     }
+
+-- a mask of the plan's interactions is a 64-bit number
+pub mask-small : (p : Plan) → planRefusal p ≡ 0 → (f : ℕ → Bool) → mask (interactions p) f < 18446744073709551616
+mask-small p e f =
+    lt-of-lt-of-le (mask-lt (interactions p) f) (pow-mono {j = maxInteractions} (counts-of p (accepted-plan p e .counts) .interactions≤))
 
 -- ---- the spans
 

@@ -1,13 +1,11 @@
 -- One call on the book's image answers and leaves what the book says, and the book stays lawful.
 use mathlib.Core.Path.{_≡_, refl, sym, ap, ap₂, _∙_}
 use Prim.Native.Nat.{ℕ, zero, suc, _≤_, _<_}
-use native.Mathlib.Nat.{lt-of-lt-of-le}
 use native.Mathlib.Omega.{arith}
 use mathlib.Core.Bool.{Bool, true, false, not, _||_}
 use mathlib.Core.List.{List, [], _∷_, _++_, append-assoc}
 use lib.ListN.{length}
 use lib.Dec.{ltb, eqb}
-use lib.Pow.{pow-mono}
 use Rattle.semantics.specs.Bytes.{allOf, implies, some-below, bit, mask, withBit}
 use Rattle.semantics.specs.Plan.{Plan, maxInteractions, interactions}
 use Rattle.semantics.specs.Refusal.{unless, refusal}
@@ -17,10 +15,10 @@ use Rattle.semantics.specs.Image.{imageLength, image, withMarks, marksOf
 use Rattle.semantics.specs.Calls.{committed, cancelled, penned, outcome, unlessRefused, clerkRules, offeredMask, tried, settled, Call, offered, try, settle, callRules, performed, called}
 use Rattle.semantics.specs.Book.{Book, replay, lane, bookImage, listed, crossedOff, bookOffered, bookRefusal, bookTried, unlessWrong, bookSettled, turn}
 use Rattle.semantics.proofs.Basics.{bool-cases, absurd-bool, same-test, not-yes, or-cases, or-right, implies-yes, Each, all-of, ltb-true, ltb-false, lt-ltb, eqb-true, eq-eqb, ne-eqb, every-all}
-use Rattle.semantics.proofs.Masks.{bit-mask, bit-mask-over, mask-lt, mask-wider, mask-same, mask-none}
+use Rattle.semantics.proofs.Masks.{bit-mask, bit-mask-over, mask-wider, mask-same, mask-none}
 use Rattle.semantics.proofs.Refusing.{tests, numbered, none-refused, all-kept, refusal-after}
 use Rattle.semantics.proofs.RuleLists.{keeps, rule-kept}
-use Rattle.semantics.proofs.AcceptedPlan.{Accepted, accepted-plan, plan-numbered, counts-of}
+use Rattle.semantics.proofs.AcceptedPlan.{Accepted, accepted-plan, plan-numbered, counts-of, mask-small}
 use Rattle.semantics.proofs.Images.{length-image, withMarks-image, marks-back, head-matches, configuration-back}
 use Rattle.semantics.proofs.Sound.{Sound, shaped, configuration-ok, sound-after}
 use Rattle.semantics.proofs.Ranking.{eligible-enabled, eligible-from, commit-eligible, commit-good, commit-from, bad-uncommitted, safe-commits, safe-none}
@@ -59,10 +57,6 @@ module _ (p : Plan) (e : planRefusal p ≡ 0) where
   here : Accepted p
   here = accepted-plan p e
 
-  small : (f : ℕ → Bool) → mask (interactions p) f < 18446744073709551616
-  unfolding here
-  small f = lt-of-lt-of-le (mask-lt (interactions p) f) (pow-mono {j = maxInteractions} (counts-of p (here .counts) .interactions≤))
-
   module _ (k : Book) (h : Lawful p k) where
     -- the book's image holds its lane, and its set as marks
     pub held-lane : configurationOf (bookImage p k) ≡ lane p k
@@ -71,7 +65,7 @@ module _ (p : Plan) (e : planRefusal p ≡ 0) where
 
     pub held-marks : marksOf (bookImage p k) ≡ mask (interactions p) (k .crossed)
     unfolding bookImage
-    held-marks = marks-back p (lane p k) (mask (interactions p) (k .crossed)) (small (k .crossed))
+    held-marks = marks-back p (lane p k) (mask (interactions p) (k .crossed)) (mask-small p e (k .crossed))
 
     -- it passes 14
     marks-lawful : marksOk p (lane p k) (mask (interactions p) (k .crossed)) ≡ true

@@ -1,7 +1,6 @@
 -- Demand 3, whole: from an accepted start on, for every list of calls, every answer and every byte of the image after each call are the book's.
 use mathlib.Core.Path.{_≡_, refl, sym, ap, _∙_}
-use Prim.Native.Nat.{ℕ, zero, suc}
-use native.Mathlib.Omega.{arith}
+use Prim.Native.Nat.{ℕ}
 use mathlib.Core.Bool.{true}
 use mathlib.Core.List.{List, [], _∷_}
 use Rattle.semantics.specs.Plan.{Plan}
@@ -9,12 +8,13 @@ use Rattle.semantics.specs.Refusal.{refusal}
 use Rattle.semantics.specs.Rules.{planRules, planRefusal}
 use Rattle.semantics.specs.Move.{initial, good}
 use Rattle.semantics.specs.Image.{Image, image, lengthRule}
-use Rattle.semantics.specs.Calls.{Answer, accepted, Outcome, outcome, unlessRefused, startRules, start, Call, calledAll, session}
+use Rattle.semantics.specs.Calls.{accepted, Outcome, outcome, unlessRefused, startRules, start, Call, calledAll, session}
 use Rattle.semantics.specs.Book.{Book, blank, lane, replay, bookImage, turn, told, bookSession}
 use Rattle.semantics.proofs.Basics.{absurd-bool}
 use Rattle.semantics.proofs.Masks.{mask-none}
 use Rattle.semantics.proofs.Refusing.{numbered, refusal-before}
 use Rattle.semantics.proofs.RuleLists.{keeps, rule-kept}
+use Rattle.semantics.proofs.RefusedUnchanged.{same-not-refused, accepted-not-refused, not-refused}
 use Rattle.semantics.proofs.AcceptedPlan.{accepted-plan}
 use Rattle.semantics.proofs.Sound.{sound-initial}
 use Rattle.semantics.proofs.BookStep.{Lawful, one-call, turn-lawful}
@@ -25,15 +25,9 @@ use Rattle.semantics.proofs.BookStep.{Lawful, one-call, turn-lawful}
 abbrev pub Starts : Plan → Image → Type 0
 Starts p b = start p b .answer ≡ accepted
 
--- the kind of a refusal is not 0
-not-refused : (n : ℕ) (b : Image) (o : Outcome) → unlessRefused n b o .answer .kind ≡ 0 → n ≡ 0
-unfolding unlessRefused
-not-refused zero b o e = refl
-not-refused (suc n) b o e = let q : _≡_ {A = ℕ} 5 0 = e in omega arith
-
 pub start-rules : (p : Plan) (b : Image) → Starts p b → refusal (startRules p b) ≡ 0
 unfolding start
-start-rules p b e = not-refused (refusal (startRules p b)) b _ (ap (λ (a : Answer). a .kind) e)
+start-rules p b e = not-refused (refusal (startRules p b)) b _ (same-not-refused e accepted-not-refused)
 
 pub start-plan : (p : Plan) (b : Image) → Starts p b → planRefusal p ≡ 0
 unfolding planRefusal startRules

@@ -12,6 +12,7 @@ pub mod Commute
 pub mod Comparisons
 pub mod Demand3
 pub mod Evaluator
+pub mod ExactAnswers
 pub mod GuardsPure
 pub mod Images
 pub mod ImagesRead
@@ -22,6 +23,7 @@ pub mod Meaning
 pub mod OneCall
 pub mod OneMove
 pub mod PennedExactly
+pub mod Performed
 pub mod Quantifiers
 pub mod RankOrder
 pub mod Ranking

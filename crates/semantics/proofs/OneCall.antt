@@ -35,14 +35,14 @@ module _ (b : Image) (m : ℕ) (e : length b ≡ imageLength) where
   first-long : length (take 16 b) ≡ 16
   first-long = length-take-le 16 b (subst (λ (k : ℕ). 16 ≤ k) (sym e) (omega arith))
 
-  marks-written : m < 18446744073709551616 → marksOf (withMarks b m) ≡ m
+  pub marks-written : m < 18446744073709551616 → marksOf (withMarks b m) ≡ m
   unfolding marksOf withMarks
   marks-written l =
       ap (λ (x : List ℕ). u64 x 16) (append-assoc (take 16 b) (leBytes 8 m) (drop 24 b))
       ∙ u64-past (take 16 b) (leBytes 8 m ++ drop 24 b) 16 0 first-long
       ∙ u64-back m (drop 24 b) l
 
-  others-same : SameButMarks (withMarks b m) b
+  pub others-same : SameButMarks (withMarks b m) b
   unfolding withMarks
   others-same =
       record {
@@ -54,11 +54,11 @@ module _ (b : Image) (m : ℕ) (e : length b ≡ imageLength) where
 
 module _ (p : Plan) (b : Image) where
   -- "Offered means enabled, unoutranked, unmarked. The offered answer is a 64-bit number with bit i for interaction i."
-  pub offered-exactly : (i : ℕ) → i < interactions p
+  pub offered-means : (i : ℕ) → i < interactions p
       → bit (performed p b offered .answer .bits) i ≡ true
       ↔ ((enabled p (configurationOf b .state) i ≡ true) × (outranked p (configurationOf b .state) i ≡ false) × (bit (marksOf b) i ≡ false))
   unfolding performed offeredMask
-  offered-exactly i l =
+  offered-means i l =
       let s = configurationOf b .state in
       let is-bit = bit-mask (interactions p) (λ j. allOf (eligible p s j ∷ not (bit (marksOf b) j) ∷ [])) i l in (
         (λ h. let (e, (u, _)) = each _ (sym is-bit ∙ h) in (eligible-enabled p s i e, eligible-top p s i e, not-yes (bit (marksOf b) i) u)),

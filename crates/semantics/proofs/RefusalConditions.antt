@@ -52,6 +52,14 @@ imageNumbers = 11 ∷ 12 ∷ 13 ∷ 14 ∷ []
 abbrev pub clerkNumbers : List ℕ
 clerkNumbers = 16 ∷ 17 ∷ 18 ∷ 19 ∷ []
 
+-- The numbers that a call can give: those of its rules.
+abbrev pub numbersOf : AnyCall → List ℕ
+numbersOf checking = planNumbers
+numbersOf (starting b) = planNumbers ++ startNumbers
+numbersOf (calling b offered) = planNumbers ++ imageNumbers
+numbersOf (calling b (try i)) = planNumbers ++ imageNumbers ++ clerkNumbers
+numbersOf (calling b settle) = planNumbers ++ imageNumbers
+
 -- Each rule of a call has a number of its own, and none has 0.
 pub distinct-numbers : (p : Plan) (q : AnyCall) → distinct (rulesOf p q) ≡ true
 unfolding distinct planRules lengthRule imageRules clerkRules startRules callRules
@@ -61,7 +69,7 @@ distinct-numbers p (calling b offered) = refl
 distinct-numbers p (calling b (try i)) = refl
 distinct-numbers p (calling b settle) = refl
 
-all-numbered : (p : Plan) (q : AnyCall) → numbered (rulesOf p q) ≡ true
+pub all-numbered : (p : Plan) (q : AnyCall) → numbered (rulesOf p q) ≡ true
 unfolding numbered planRules lengthRule imageRules clerkRules startRules callRules
 all-numbered p checking = refl
 all-numbered p (starting b) = refl
@@ -133,26 +141,29 @@ plan-refuses p q n h = rw (← same-by-any p q n h) (refuses p q n)
 pub gives : (p : Plan) (q : AnyCall) (n : ℕ) → answerTo p q ≡ refused n → among n (numbers (rulesOf p q)) ≡ true
 gives p q n e = broken-among n (rulesOf p q) (refuses p q n .0 e .1)
 
+pub gives-own : (p : Plan) (q : AnyCall) (n : ℕ) → answerTo p q ≡ refused n → among n (numbersOf q) ≡ true
+unfolding planRules lengthRule imageRules clerkRules startRules callRules
+gives-own p checking n = gives p checking n
+gives-own p (starting b) n = gives p (starting b) n
+gives-own p (calling b offered) n = gives p (calling b offered) n
+gives-own p (calling b (try i)) n = gives p (calling b (try i)) n
+gives-own p (calling b settle) n = gives p (calling b settle) n
+
 pub check-gives : (p : Plan) (n : ℕ) → check p ≡ refused n → among n planNumbers ≡ true
-unfolding planRules
-check-gives p n = gives p checking n
+check-gives p n = gives-own p checking n
 
 pub start-gives : (p : Plan) (b : Image) (n : ℕ) → start p b .answer ≡ refused n → among n (planNumbers ++ startNumbers) ≡ true
-unfolding planRules startRules lengthRule
-start-gives p b n = gives p (starting b) n
+start-gives p b n = gives-own p (starting b) n
 
 pub offered-gives : (p : Plan) (b : Image) (n : ℕ) → called p b offered .answer ≡ refused n → among n (planNumbers ++ imageNumbers) ≡ true
-unfolding planRules callRules imageRules lengthRule
-offered-gives p b n = gives p (calling b offered) n
+offered-gives p b n = gives-own p (calling b offered) n
 
 pub settle-gives : (p : Plan) (b : Image) (n : ℕ) → called p b settle .answer ≡ refused n → among n (planNumbers ++ imageNumbers) ≡ true
-unfolding planRules callRules imageRules lengthRule
-settle-gives p b n = gives p (calling b settle) n
+settle-gives p b n = gives-own p (calling b settle) n
 
 pub try-gives : (p : Plan) (b : Image) (i n : ℕ) → called p b (try i) .answer ≡ refused n
     → among n (planNumbers ++ imageNumbers ++ clerkNumbers) ≡ true
-unfolding planRules callRules imageRules lengthRule clerkRules
-try-gives p b i n = gives p (calling b (try i)) n
+try-gives p b i n = gives-own p (calling b (try i)) n
 
 -- ---- the planner, 1 to 10: check, start, offered, try and settle alike. From 4 on, `before n` names the rules that stand before rule n at once.
 

@@ -1,43 +1,82 @@
 -- "Every refusal changes no byte", 01 "Who causes which number": a call whose answer is of kind 5 leaves the image as it was.
-use mathlib.Core.Path.{_≡_, refl, ap}
+-- A call that is not refused keeps each of its rules and is performed.
+use mathlib.Core.Path.{_≡_, refl, sym, ap, _∙_, subst}
+use mathlib.Core.Logic.{_↔_}
 use Prim.Native.Nat.{ℕ, zero, suc}
-use mathlib.Core.Bool.{Bool, true, false, cond}
-use lib.Dec.{ltb}
-use Rattle.semantics.specs.Bytes.{some-below}
-use Rattle.semantics.specs.Plan.{Plan, interactions}
-use Rattle.semantics.specs.Refusal.{refusal}
-use Rattle.semantics.specs.Move.{enabled, after, good, safeMove, initial}
-use Rattle.semantics.specs.Image.{Image, image, configurationOf}
-use Rattle.semantics.specs.Calls.{Answer, accepted, refused, Outcome, outcome, unlessRefused, startRules, start, tried, settled, Call, offered, try, settle, callRules, performed, called}
+use mathlib.Core.Bool.{true}
+use mathlib.Core.List.{List}
+use Rattle.semantics.specs.Plan.{Plan}
+use Rattle.semantics.specs.Refusal.{Rule, refusal}
+use Rattle.semantics.specs.Move.{initial}
+use Rattle.semantics.specs.Image.{Image, image}
+use Rattle.semantics.specs.Calls.{Answer, accepted, refused, Outcome, outcome, unlessRefused, startRules, start, Call, callRules, performed, called}
 use Rattle.semantics.proofs.Basics.{eqb-false}
+use Rattle.semantics.proofs.Refusing.{numbered, none-refused, all-kept}
+use Rattle.semantics.proofs.RuleLists.{Kept}
+use Rattle.semantics.proofs.Performed.{Performs, offering, committing, cancelling, settling, penning, stalling, performs}
 
 -- An answer is a refusal: of kind 5.
 abbrev pub Refused : Answer → Type 0
 Refused a = a .kind ≡ 5
 
--- ---- what is performed is no refusal
+pub same-not-refused : {a c : Answer} → a ≡ c → ¬ Refused c → ¬ Refused a
+same-not-refused e = subst (λ (a : Answer). ¬ Refused a) (sym e)
 
-either : (b : Bool) (x y : Outcome) → ¬ Refused (x .answer) → ¬ Refused (y .answer) → ¬ Refused (cond b x y .answer)
-either true x y f g = f
-either false x y f g = g
+-- ---- what is performed is no refusal
 
 pub accepted-not-refused : ¬ Refused accepted
 accepted-not-refused = eqb-false 0 5 refl
 
+performs-no-refusal : (p : Plan) (b : Image) (k : Call) {o : Outcome} → Performs p b k o → ¬ Refused (o .answer)
+performs-no-refusal p b _ offering = eqb-false 0 5 refl
+performs-no-refusal p b _ (committing g) = eqb-false 1 5 refl
+performs-no-refusal p b _ (cancelling g) = eqb-false 2 5 refl
+performs-no-refusal p b _ (settling l) = eqb-false 1 5 refl
+performs-no-refusal p b _ (penning t u) = eqb-false 4 5 refl
+performs-no-refusal p b _ (stalling n) = eqb-false 3 5 refl
+
 pub performed-not-refused : (p : Plan) (b : Image) (k : Call) → ¬ Refused (performed p b k .answer)
-unfolding performed tried settled
-performed-not-refused p b offered = eqb-false 0 5 refl
-performed-not-refused p b (try i) = either (good p (after p (configurationOf b) i)) _ _ (eqb-false 1 5 refl) (eqb-false 2 5 refl)
-performed-not-refused p b settle =
-    either (ltb (safeMove p (configurationOf b)) (interactions p)) _ _ (eqb-false 1 5 refl)
-    (either (some-below (interactions p) (enabled p (configurationOf b .state))) _ _ (eqb-false 4 5 refl) (eqb-false 3 5 refl))
+performed-not-refused p b k = performs-no-refusal p b k (performs p b k)
+
+-- ---- what is not refused is performed
+
+pub not-refused : (n : ℕ) (b : Image) (o : Outcome) → ¬ Refused (unlessRefused n b o .answer) → n ≡ 0
+unfolding unlessRefused
+not-refused zero b o f = refl
+not-refused (suc n) b o f = absurd (f refl)
+
+pub called-performed : (p : Plan) (b : Image) (k : Call) → ¬ Refused (called p b k .answer) → called p b k ≡ performed p b k
+unfolding called unlessRefused
+called-performed p b k f =
+    ap (λ (n : ℕ). unlessRefused n b (performed p b k)) (not-refused (refusal (callRules p b k)) b (performed p b k) f)
+
+module _ (rs : List Rule) (b : Image) (o : Outcome) (m : numbered rs ≡ true) where
+  -- An answer that is no refusal is given exactly where each rule is kept and what is performed gives it.
+  pub answers-exactly : (a : Answer) → ¬ Refused a → unlessRefused (refusal rs) b o .answer ≡ a ↔ Kept rs × (o .answer ≡ a)
+  unfolding unlessRefused
+  answers-exactly a f =
+      let answers : ℕ → Answer = λ n. unlessRefused n b o .answer in (
+        (λ e. let z = not-refused (refusal rs) b o (same-not-refused e f) in (none-refused rs m z, sym (ap answers z) ∙ e)),
+        (λ (h, e). ap answers (all-kept rs h) ∙ e),
+      )
+
+  pub own-exactly : ¬ Refused (o .answer) → unlessRefused (refusal rs) b o .answer ≡ o .answer ↔ Kept rs
+  own-exactly f = (λ e. answers-exactly (o .answer) f .0 e .0, λ h. answers-exactly (o .answer) f .1 (h, refl))
+
+  pub kept-exactly : ¬ Refused (o .answer) → ¬ Refused (unlessRefused (refusal rs) b o .answer) ↔ Kept rs
+  kept-exactly f = (λ g. answers-exactly _ g .0 refl .0, λ h. same-not-refused (own-exactly f .1 h) f)
 
 -- ---- no byte
 
-unchanged : (n : ℕ) (b : Image) (o : Outcome) → ¬ Refused (o .answer) → Refused (unlessRefused n b o .answer) → unlessRefused n b o .image ≡ b
+-- A refusal is its number, and no bits, and the image as it was.
+pub refused-is : (n : ℕ) (b : Image) (o : Outcome) → ¬ Refused (o .answer) → Refused (unlessRefused n b o .answer)
+    → unlessRefused n b o ≡ outcome (refused n) b
 unfolding unlessRefused
-unchanged zero b o f e = absurd (f e)
-unchanged (suc n) b o f e = refl
+refused-is zero b o f e = absurd (f e)
+refused-is (suc n) b o f e = refl
+
+unchanged : (n : ℕ) (b : Image) (o : Outcome) → ¬ Refused (o .answer) → Refused (unlessRefused n b o .answer) → unlessRefused n b o .image ≡ b
+unchanged n b o f e = ap (λ (x : Outcome). x .image) (refused-is n b o f e)
 
 pub start-kind-5-unchanged : (p : Plan) (b : Image) → start p b .answer .kind ≡ 5 → start p b .image ≡ b
 unfolding start

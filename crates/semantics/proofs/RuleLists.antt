@@ -43,7 +43,7 @@ distinct (r ∷ rs) = not (among (r .number) (numbers rs)) && distinct rs
 
 -- ---- rules that are kept
 
-kept-number : (n : ℕ) (rs : List Rule) → Kept rs → keeps n rs ≡ true
+pub kept-number : (n : ℕ) (rs : List Rule) → Kept rs → keeps n rs ≡ true
 unfolding keeps
 kept-number n [] h = refl
 kept-number n (r ∷ rs) (k, h) = bool-cases (eqb (r .number) n) (λ e. rw e k) (λ e. rw e (kept-number n rs h))
@@ -51,6 +51,11 @@ kept-number n (r ∷ rs) (k, h) = bool-cases (eqb (r .number) n) (λ e. rw e k) 
 -- Nothing is refused: each rule is kept, by its number.
 pub rule-kept : (rs : List Rule) → numbered rs ≡ true → refusal rs ≡ 0 → (n : ℕ) → keeps n rs ≡ true
 rule-kept rs h e n = kept-number n rs (none-refused rs h e)
+
+pub kept-append : (rs qs : List Rule) → Kept (rs ++ qs) ↔ Kept rs × Kept qs
+kept-append [] qs = (λ h. (tt, h), λ (_, h). h)
+kept-append (r ∷ rs) qs =
+    ((λ (h, hs). let (a, b) = kept-append rs qs .0 hs in ((h, a), b)), (λ ((h, a), b). (h, kept-append rs qs .1 (a, b))))
 
 -- ---- the rule that is broken
 
