@@ -20,6 +20,19 @@ extern "C" {
 
 enum { YARD_IMAGE_BYTES = 312 }; /* the image of a lane */
 
+/* Where an image keeps what, for a reader of images; a number has its lowest byte first. */
+enum yard_image_place {
+    YARD_IMAGE_COMPONENTS = 5,   /* 1 byte: how many components the lane has */
+    YARD_IMAGE_VARIABLES = 6,    /* 1 byte: how many variables */
+    YARD_IMAGE_INTERACTIONS = 7, /* 1 byte: how many interactions */
+    YARD_IMAGE_ORACLE = 8,       /* 1 byte: the oracle state */
+    YARD_IMAGE_PLAN_NUMBER = 12, /* 4 bytes: the number of the plan */
+    YARD_IMAGE_MARKS = 16,       /* 8 bytes: bit i for interaction i, tried in this state and ending bad */
+    YARD_IMAGE_LOCATIONS = 24,   /* 1 byte a component */
+    YARD_IMAGE_LAST_PORTS = 40,  /* 1 byte a component: the port of its last move, 255 for none yet */
+    YARD_IMAGE_VALUES = 56       /* 4 bytes a variable: a signed number */
+};
+
 enum yard_kind {
     YARD_ACCEPTED = 0,  /* number 0 */
     YARD_COMMITTED = 1, /* number: the interaction; the image holds the lane after it, with no marks */

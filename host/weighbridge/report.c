@@ -7,8 +7,6 @@
 #include <stdio.h>
 #include <string.h>
 
-/* Where an image keeps what is read here. */
-enum { COMPONENTS = 5, VARIABLES = 6, MARKS = 16, LOCATIONS = 24, LAST_PORTS = 40, VALUES = 56 };
 enum { NO_PORT = 255 };
 
 /* By refusal number; 0 stands for a number that yard.h does not list. */
@@ -94,27 +92,27 @@ static int64_t signed_at(const uint8_t *bytes)
 
 void report_weights(const uint8_t *image)
 {
-    unsigned count = image[VARIABLES];
+    unsigned count = image[YARD_IMAGE_VARIABLES];
     if (count == 0)
         puts("the lane has no variables");
     for (unsigned n = 0; n < count; n++)
-        printf("variable %u: %" PRId64 "\n", n, signed_at(image + VALUES + 4 * n));
+        printf("variable %u: %" PRId64 "\n", n, signed_at(image + YARD_IMAGE_VALUES + 4 * n));
 }
 
 void report_locations(const uint8_t *image)
 {
-    for (unsigned n = 0; n < image[COMPONENTS]; n++) {
-        printf("component %u: location %u, ", n, image[LOCATIONS + n]);
-        if (image[LAST_PORTS + n] == NO_PORT)
+    for (unsigned n = 0; n < image[YARD_IMAGE_COMPONENTS]; n++) {
+        printf("component %u: location %u, ", n, image[YARD_IMAGE_LOCATIONS + n]);
+        if (image[YARD_IMAGE_LAST_PORTS + n] == NO_PORT)
             puts("no last port yet");
         else
-            printf("last port %u\n", image[LAST_PORTS + n]);
+            printf("last port %u\n", image[YARD_IMAGE_LAST_PORTS + n]);
     }
 }
 
 void report_marks(const uint8_t *image)
 {
-    report_moves("marked", number_at(image + MARKS, 8));
+    report_moves("marked", number_at(image + YARD_IMAGE_MARKS, 8));
 }
 
 void report_file_fault(const char *verb, const char *path)

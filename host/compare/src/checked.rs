@@ -1,68 +1,18 @@
-//! One call on the library and on the reference, and whether they agree.
+//! One call on every engine and on the reference, and whether they agree.
 
 use reference::answer::Answer;
-use reference::{book, calls};
+use reference::calls;
 
 use crate::difference::Difference;
-use crate::lent::Lent;
-use crate::rng::Rng;
+use crate::engines::{Call, Engine, Reply, BASELINE, LIBRARY};
+use crate::fault::{self, Case};
+use crate::lent::{End, Lent, LentPlan, ENDS};
 use crate::tally::Tally;
 
-#[derive(Clone, Copy, Debug, PartialEq, Eq)]
-pub enum Call {
-    Check,
-    Start,
-    Offered,
-    Bits,
-    Try(u32),
-    Settle,
-}
+/// The longest image, lawful or not, has fewer bytes.
+const IMAGE_ROOM: usize = 1000;
 
-impl Call {
-    /// The call's row in the tally.
-    pub fn row(self) -> usize {
-        match self {
-            Call::Check => 0,
-            Call::Start => 1,
-            Call::Offered => 2,
-            Call::Bits => 3,
-            Call::Try(_) => 4,
-            Call::Settle => 5,
-        }
-    }
-
-    /// What the book is told; nothing of a check, which has no lane.
-    pub fn told(self) -> Option<book::Call> {
-        match self {
-            Call::Check => None,
-            Call::Start => Some(book::Call::Start),
-            Call::Offered | Call::Bits => Some(book::Call::Offered),
-            Call::Try(number) => Some(book::Call::Try(number)),
-            Call::Settle => Some(book::Call::Settle),
-        }
-    }
-}
-
-/// What a call of the library returns.
-#[derive(Clone, Copy, Debug, PartialEq, Eq)]
-pub enum Reply {
-    Answer { kind: u32, number: u32 },
-    Bits(u64),
-}
-
-impl Reply {
-    pub fn of(call: Call, answer: Answer, bits: u64) -> Reply {
-        match call {
-            Call::Bits => Reply::Bits(bits),
-            _ => Reply::Answer {
-                kind: answer.kind(),
-                number: answer.number(),
-            },
-        }
-    }
-}
-
-/// The call's result, on which library and reference agree.
+/// The call's result, on which all agree.
 pub struct Outcome {
     pub answer: Answer,
     pub bits: u64,
@@ -71,41 +21,109 @@ pub struct Outcome {
 
 pub type Checked<T> = Result<T, Box<Difference>>;
 
-pub fn compare(
-    rng: &mut Rng,
-    tally: &mut Tally,
-    plan: &Lent,
-    image: &[u8],
+/// One call, made by each engine in turn.
+struct Question<'a> {
     call: Call,
-) -> Checked<Outcome> {
-    let outcome = by_reference(call, plan.original(), image);
-    let mut lent = Lent::new(rng, image);
-    let library = by_library(call, plan.bytes(), lent.bytes_mut());
-    tally.count(call, outcome.answer);
-    let expected = Reply::of(call, outcome.answer, outcome.bits);
-    let what = if library != expected {
-        "answer"
-    } else if lent.bytes() != outcome.image {
-        "image"
-    } else if outcome.answer.kind() == yard::REFUSED && lent.bytes() != image {
-        "image of a refused call"
-    } else if !lent.surroundings_kept() {
-        "bytes around the image"
-    } else if !plan.kept() {
-        "plan or the bytes around it"
-    } else {
-        return Ok(outcome);
-    };
-    Err(Box::new(Difference {
-        what,
-        call,
-        call_number: tally.calls,
-        library,
-        expected,
-        first_byte: first_difference(lent.bytes(), &outcome.image),
-        plan: plan.original().to_vec(),
-        image: image.to_vec(),
-    }))
+    number: u64,
+    plan: &'a LentPlan,
+    image: &'a [u8],
+}
+
+pub struct Comparer {
+    seed: u64,
+    library: Engine,
+    lent: Lent,
+}
+
+impl Comparer {
+    pub fn new(seed: u64) -> Comparer {
+        Comparer::with(seed, LIBRARY)
+    }
+
+    /// With another engine in the library's place.
+    pub fn with(seed: u64, library: Engine) -> Comparer {
+        Comparer {
+            seed,
+            library,
+            lent: Lent::new(IMAGE_ROOM),
+        }
+    }
+
+    /// Holds the library, lent its buffers at either end, and the C baseline, at one end in turn, against the reference.
+    pub fn compare(
+        &mut self,
+        tally: &mut Tally,
+        plan: &LentPlan,
+        image: &[u8],
+        call: Call,
+    ) -> Checked<Outcome> {
+        let outcome = by_reference(call, plan.bytes(), image);
+        tally.count(call, outcome.answer);
+        let question = Question {
+            call,
+            number: tally.calls,
+            plan,
+            image,
+        };
+        for end in ENDS {
+            self.hold(self.library, end, &question, &outcome)?;
+        }
+        let in_turn = ENDS[tally.calls as usize % 2];
+        self.hold(BASELINE, in_turn, &question, &outcome)?;
+        Ok(outcome)
+    }
+
+    fn hold(
+        &mut self,
+        engine: Engine,
+        end: End,
+        question: &Question,
+        outcome: &Outcome,
+    ) -> Checked<()> {
+        let reply = self.ask(engine, end, question);
+        let expected = Reply::of(question.call, outcome.answer, outcome.bits);
+        let after = self.lent.bytes();
+        let what = if reply != expected {
+            "answer"
+        } else if after != outcome.image {
+            "image"
+        } else if outcome.answer.kind() == yard::REFUSED && after != question.image {
+            "image of a refused call"
+        } else {
+            return Ok(());
+        };
+        Err(Box::new(Difference {
+            what,
+            call: question.call,
+            call_number: question.number,
+            said: (engine.name, reply),
+            expected: ("reference", expected),
+            first_byte: first_difference(after, &outcome.image),
+            plan: question.plan.bytes().to_vec(),
+            image: question.image.to_vec(),
+        }))
+    }
+
+    /// Lends the plan and a copy of the image, and makes the call.
+    fn ask(&mut self, engine: Engine, end: End, question: &Question) -> Reply {
+        self.lent.put(end, question.image);
+        let plan = question.plan.at(end);
+        let case = Case {
+            seed: self.seed,
+            call_number: question.number,
+            engine: engine.name,
+            call: question.call,
+            end,
+            plan: addresses(plan),
+            image: addresses(self.lent.bytes()),
+        };
+        fault::during(&case, || engine.make(question.call, plan, &mut self.lent))
+    }
+}
+
+fn addresses(bytes: &[u8]) -> std::ops::Range<usize> {
+    let start = bytes.as_ptr().addr();
+    start..start + bytes.len()
 }
 
 fn by_reference(call: Call, plan: &[u8], image: &[u8]) -> Outcome {
@@ -121,21 +139,6 @@ fn by_reference(call: Call, plan: &[u8], image: &[u8]) -> Outcome {
         answer,
         bits,
         image,
-    }
-}
-
-fn by_library(call: Call, plan: &[u8], image: &mut [u8]) -> Reply {
-    let answer = match call {
-        Call::Check => yard::check(plan),
-        Call::Start => yard::start(plan, image),
-        Call::Offered => yard::offered(plan, image),
-        Call::Bits => return Reply::Bits(yard::offered_bits(plan, image)),
-        Call::Try(number) => yard::attempt(plan, image, number),
-        Call::Settle => yard::settle(plan, image),
-    };
-    Reply::Answer {
-        kind: answer.kind,
-        number: answer.number,
     }
 }
 

@@ -2,15 +2,16 @@
 
 use std::{env, fs};
 
-use crate::checked::{Call, Reply};
+use crate::engines::{Call, Reply};
 
 pub struct Difference {
     /// What differs.
     pub what: &'static str,
     pub call: Call,
     pub call_number: u64,
-    pub library: Reply,
-    pub expected: Reply,
+    /// Who said what, and who expected what.
+    pub said: (&'static str, Reply),
+    pub expected: (&'static str, Reply),
     /// The first byte of the image that differs, if one does.
     pub first_byte: Option<usize>,
     pub plan: Vec<u8>,
@@ -22,8 +23,9 @@ impl Difference {
     pub fn report(&self, seed: u64) {
         println!("seed {seed}, call {}: {:?}", self.call_number, self.call);
         println!("different: {}", self.what);
-        println!("library  {:?}", self.library);
-        println!("expected {:?}", self.expected);
+        for (who, reply) in [self.said, self.expected] {
+            println!("{who}: {reply:?}");
+        }
         match self.first_byte {
             Some(at) => println!("the images after the call differ from byte {at} on"),
             None => println!("the images after the call are equal"),

@@ -1,23 +1,12 @@
-//! Compares every call of libyard.a with the reference and the book.
+//! Compares every call of libyard.a with the reference, the C baseline and the book.
 #![forbid(unsafe_code)]
-
-mod checked;
-mod damage;
-mod difference;
-mod generate;
-mod images;
-mod lent;
-mod oracle;
-mod rng;
-mod sequences;
-mod spoil;
-mod tally;
-mod words;
 
 use std::env;
 use std::process::ExitCode;
 
-use sequences::Session;
+use compare::checked::Comparer;
+use compare::fault;
+use compare::sequences::Session;
 
 const SEED: u64 = 1;
 const CALLS: u64 = 2_000_000;
@@ -44,7 +33,8 @@ fn read_arguments(arguments: &[String]) -> Option<(u64, u64)> {
 
 /// Compares at least so many calls.
 fn run(seed: u64, calls: u64) -> ExitCode {
-    let mut session = Session::new(seed);
+    fault::watch();
+    let mut session = Session::new(seed, Comparer::new(seed));
     let mut difference = None;
     while difference.is_none() && session.tally.calls < calls {
         difference = session.round().err();

@@ -6,9 +6,10 @@ use reference::draft::Draft;
 use reference::image::IMAGE_BYTES;
 use reference::plan::Plan;
 
-use crate::checked::{self, Call, Checked, Outcome, Reply};
+use crate::checked::{self, Checked, Comparer, Outcome};
 use crate::difference::Difference;
-use crate::lent::Lent;
+use crate::engines::{Call, Reply};
+use crate::lent::{LentPlan, Shelf};
 use crate::rng::Rng;
 use crate::tally::Tally;
 use crate::{damage, generate, images};
@@ -16,15 +17,19 @@ use crate::{damage, generate, images};
 pub struct Session {
     rng: Rng,
     pub tally: Tally,
+    comparer: Comparer,
+    plans: Shelf,
     /// An image that another plan reached.
     other: Vec<u8>,
 }
 
 impl Session {
-    pub fn new(seed: u64) -> Session {
+    pub fn new(seed: u64, comparer: Comparer) -> Session {
         Session {
             rng: Rng::new(seed),
             tally: Tally::default(),
+            comparer,
+            plans: Shelf::default(),
             other: vec![0; IMAGE_BYTES],
         }
     }
@@ -33,7 +38,7 @@ impl Session {
     pub fn round(&mut self) -> Checked<()> {
         let made = generate::plan(&mut self.rng);
         self.tally.plan(&made);
-        let plan = Lent::new(&mut self.rng, &made.draft.bytes());
+        let plan = self.plans.lend(&made.draft.bytes());
         let mut image = vec![0; IMAGE_BYTES];
         self.rng.fill(&mut image);
         self.call(&plan, &image, Call::Check)?;
@@ -48,12 +53,13 @@ impl Session {
         for _ in 0..4 {
             self.damaged_plan(&made.draft, &image)?;
         }
+        self.plans.take_back(plan);
         Ok(())
     }
 
     /// The calls after an accepted start; gives the last image.
-    fn sequence(&mut self, draft: &Draft, plan: &Lent, started: Vec<u8>) -> Checked<Vec<u8>> {
-        let lawful = Plan::read(plan.original()).expect("a started plan is lawful");
+    fn sequence(&mut self, draft: &Draft, plan: &LentPlan, started: Vec<u8>) -> Checked<Vec<u8>> {
+        let lawful = Plan::read(plan.bytes()).expect("a started plan is lawful");
         let mut book = Book::new(lawful);
         let mut image = started;
         let mut offer = 0;
@@ -76,12 +82,12 @@ impl Session {
         Ok(image)
     }
 
-    fn call(&mut self, plan: &Lent, image: &[u8], call: Call) -> Checked<Outcome> {
-        checked::compare(&mut self.rng, &mut self.tally, plan, image, call)
+    fn call(&mut self, plan: &LentPlan, image: &[u8], call: Call) -> Checked<Outcome> {
+        self.comparer.compare(&mut self.tally, plan, image, call)
     }
 
     /// Now and then, calls apart from the sequence: on another image or with a damaged plan.
-    fn detour(&mut self, draft: &Draft, plan: &Lent, image: &[u8]) -> Checked<()> {
+    fn detour(&mut self, draft: &Draft, plan: &LentPlan, image: &[u8]) -> Checked<()> {
         match self.rng.below(20) {
             0..=3 => {
                 let damaged = images::damaged(&mut self.rng, image, draft, &self.other);
@@ -101,17 +107,18 @@ impl Session {
     /// A check of a damaged plan, and another call with it.
     fn damaged_plan(&mut self, draft: &Draft, image: &[u8]) -> Checked<()> {
         let bytes = damage::plan(&mut self.rng, draft);
-        let plan = Lent::new(&mut self.rng, &bytes);
+        let plan = self.plans.lend(&bytes);
         self.call(&plan, image, Call::Check)?;
         if self.rng.chance(5) {
             let damaged = images::damaged(&mut self.rng, image, draft, &self.other);
             self.any_call(draft, &plan, &damaged)?;
         }
         self.any_call(draft, &plan, image)?;
+        self.plans.take_back(plan);
         Ok(())
     }
 
-    fn any_call(&mut self, draft: &Draft, plan: &Lent, image: &[u8]) -> Checked<Outcome> {
+    fn any_call(&mut self, draft: &Draft, plan: &LentPlan, image: &[u8]) -> Checked<Outcome> {
         let call = self.next_call(draft.interactions.len(), 0);
         self.call(plan, image, call)
     }
@@ -143,7 +150,7 @@ impl Session {
     fn hold_against(
         &mut self,
         book: &mut Book,
-        plan: &Lent,
+        plan: &LentPlan,
         image: &[u8],
         call: Call,
         outcome: &Outcome,
@@ -152,20 +159,20 @@ impl Session {
             return Ok(());
         };
         let (answer, bits) = book.call(told);
-        let library = Reply::of(call, outcome.answer, outcome.bits);
+        let said = Reply::of(call, outcome.answer, outcome.bits);
         let expected = Reply::of(call, answer, bits);
         let first_byte = checked::first_difference(&outcome.image, &book.image());
-        if library == expected && first_byte.is_none() {
+        if said == expected && first_byte.is_none() {
             return Ok(());
         }
         Err(Box::new(Difference {
             what: "answer or image of the book",
             call,
             call_number: self.tally.calls,
-            library,
-            expected,
+            said: ("library and reference", said),
+            expected: ("book", expected),
             first_byte,
-            plan: plan.original().to_vec(),
+            plan: plan.bytes().to_vec(),
             image: image.to_vec(),
         }))
     }

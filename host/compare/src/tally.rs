@@ -5,7 +5,7 @@ use std::fmt;
 use reference::answer::Answer;
 use reference::draft::Draft;
 
-use crate::checked::Call;
+use crate::engines::Call;
 use crate::generate::Generated;
 
 const CALLS: [&str; 6] = ["check", "start", "offered", "bits", "try", "settle"];

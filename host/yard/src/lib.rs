@@ -53,7 +53,7 @@ mod raw {
     }
 }
 
-fn answer(packed: u32) -> Answer {
+pub fn answer(packed: u32) -> Answer {
     Answer {
         kind: packed >> 16,
         number: packed & 0xffff,

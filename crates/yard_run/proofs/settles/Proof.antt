@@ -16,19 +16,23 @@ abbrev μ-loop : tie.MeasureT-loop
 loop-holds : tie.Need-loop-holds Inv-loop μ-loop
 loop-holds c = tt
 
--- src/main.rt:38:18
+-- src/main.rt:38:13
 yard-settle-requires : tie.Need-yard-settle-requires Inv-loop μ-loop
 yard-settle-requires c κs = search needs
 
--- src/main.rt:38:13
+-- src/main.rt:39:13
 told-requires : tie.Need-told-requires Inv-loop μ-loop
 told-requires c κs = search needs
 
--- src/main.rt:39:13
+-- src/main.rt:40:13
 returns : tie.Need-returns Inv-loop μ-loop
 returns c = search needs
 
--- src/main.rt:41:16
+-- src/main.rt:43:13
+returns-2 : tie.Need-returns-2 Inv-loop μ-loop
+returns-2 c = search needs
+
+-- src/main.rt:45:16
 sub-left : tie.Need-sub-left Inv-loop μ-loop
 sub-left c = search needs
 
@@ -41,8 +45,8 @@ loop-again : tie.Need-loop-again Inv-loop μ-loop
 loop-again c = tt
 
 -- src/main.rt:35:1
-returns-2 : tie.Need-returns-2 Inv-loop μ-loop
-returns-2 c = search needs
+returns-3 : tie.Need-returns-3 Inv-loop μ-loop
+returns-3 c = search needs
 
 pub settles-spec : {M : Type 1} → statement M
 settles-spec =
@@ -54,7 +58,8 @@ settles-spec =
     yard-settle-requires
     told-requires
     returns
+    returns-2
     sub-left
     loop-less
     loop-again
-    returns-2)
+    returns-3)

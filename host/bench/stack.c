@@ -1,0 +1,79 @@
+/* The most stack that each call of libyard.a takes, in bytes below the caller's stack pointer: the calls are made on a painted stack, over
+   walks by random tries through the plans, marks included.
+   measure-stack PLAN... */
+#define _GNU_SOURCE
+#include "scenes.h"
+#include <ucontext.h>
+
+enum { ROOM = 1 << 16, PAINT = 0xA5, STEPS = 300 };
+
+static const Engine yard = ENGINE(yard);
+static _Alignas(16) uint8_t room[ROOM];
+static ucontext_t home;
+static uint8_t *top; /* the stack pointer at the call */
+static const Plan *plan;
+static const Job *job;
+static uint8_t image[IMAGE];
+
+static void call(void) {
+  __asm__ volatile("mov %%rsp, %0" : "=r"(top));
+  repeat(&yard, plan, job, image, 1);
+}
+
+/* The bytes that one call takes. */
+static size_t taken(const Plan *p, const Job *j) {
+  ucontext_t away;
+  plan = p, job = j;
+  memcpy(image, j->image, IMAGE);
+  memset(room, PAINT, ROOM);
+  getcontext(&away);
+  away.uc_stack.ss_sp = room, away.uc_stack.ss_size = ROOM, away.uc_link = &home;
+  makecontext(&away, call, 0);
+  swapcontext(&home, &away);
+  uint8_t *low = room;
+  while (*low == PAINT) low++;
+  return (size_t)(top - low);
+}
+
+/* Raises most by the calls of every column on an image, the try by this number. */
+static void measure_at(const Plan *p, const uint8_t *b, uint32_t number, size_t *most) {
+  Job j = {.number = number};
+  memcpy(j.image, b, IMAGE);
+  for (int c = 0; c < COLUMNS; c++) {
+    j.column = c;
+    size_t bytes = taken(p, &j);
+    if (bytes > most[c]) most[c] = bytes;
+  }
+}
+
+/* Walks from the start; where nothing is on offer, settling goes on, or the walk begins anew. Gives how many images had marks. */
+static unsigned walk(const Plan *p, size_t *most) {
+  static const uint8_t none[8];
+  uint8_t b[IMAGE];
+  unsigned marked = 0;
+  base_start(p->bytes, p->len, b, IMAGE);
+  for (int step = 0; step < STEPS; step++) {
+    uint64_t offered = base_offered_bits(p->bytes, p->len, b, IMAGE);
+    uint32_t number = offered ? some_bit(offered) : (uint32_t)step % 64;
+    measure_at(p, b, number, most);
+    marked += memcmp(b + 16, none, 8) != 0;
+    if (offered) base_try(p->bytes, p->len, b, IMAGE, number);
+    else if (base_settle(p->bytes, p->len, b, IMAGE) >> 16 != 1) base_start(p->bytes, p->len, b, IMAGE);
+  }
+  return marked;
+}
+
+int main(int argc, char **argv) {
+  size_t most[COLUMNS] = {0}, worst = 0;
+  unsigned marked = 0;
+  for (int k = 1; k < argc; k++) {
+    load(argv[k], &plans[0]);
+    marked += walk(&plans[0], most);
+  }
+  for (int c = 0; c < COLUMNS; c++) {
+    printf("%s: %zu bytes\n", columns[c], most[c]);
+    if (most[c] > worst) worst = most[c];
+  }
+  printf("at most %zu bytes, over %d plans and %d images, %u of them with marks\n", worst, argc - 1, (argc - 1) * STEPS, marked);
+  return 0;
+}

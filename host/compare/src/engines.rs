@@ -1,0 +1,107 @@
+//! The calls, and the engines that are asked to make them.
+
+use reference::book;
+use yard::Answer;
+
+use crate::baseline;
+use crate::lent::Lent;
+
+#[derive(Clone, Copy, Debug, PartialEq, Eq)]
+pub enum Call {
+    Check,
+    Start,
+    Offered,
+    Bits,
+    Try(u32),
+    Settle,
+}
+
+impl Call {
+    /// The call's row in the tally.
+    pub fn row(self) -> usize {
+        match self {
+            Call::Check => 0,
+            Call::Start => 1,
+            Call::Offered => 2,
+            Call::Bits => 3,
+            Call::Try(_) => 4,
+            Call::Settle => 5,
+        }
+    }
+
+    /// What the book is told; nothing of a check, which has no lane.
+    pub fn told(self) -> Option<book::Call> {
+        match self {
+            Call::Check => None,
+            Call::Start => Some(book::Call::Start),
+            Call::Offered | Call::Bits => Some(book::Call::Offered),
+            Call::Try(number) => Some(book::Call::Try(number)),
+            Call::Settle => Some(book::Call::Settle),
+        }
+    }
+}
+
+/// What a call returns.
+#[derive(Clone, Copy, Debug, PartialEq, Eq)]
+pub enum Reply {
+    Answer(Answer),
+    Bits(u64),
+}
+
+impl Reply {
+    pub fn of(call: Call, answer: reference::answer::Answer, bits: u64) -> Reply {
+        match call {
+            Call::Bits => Reply::Bits(bits),
+            _ => Reply::Answer(Answer {
+                kind: answer.kind(),
+                number: answer.number(),
+            }),
+        }
+    }
+}
+
+/// An engine with the interface of yard.h.
+#[derive(Clone, Copy)]
+pub struct Engine {
+    pub name: &'static str,
+    pub check: fn(&[u8]) -> Answer,
+    pub start: fn(&[u8], &mut [u8]) -> Answer,
+    pub offered: fn(&[u8], &[u8]) -> Answer,
+    pub bits: fn(&[u8], &[u8]) -> u64,
+    pub attempt: fn(&[u8], &mut [u8], u32) -> Answer,
+    pub settle: fn(&[u8], &mut [u8]) -> Answer,
+}
+
+pub const LIBRARY: Engine = Engine {
+    name: "library",
+    check: yard::check,
+    start: yard::start,
+    offered: yard::offered,
+    bits: yard::offered_bits,
+    attempt: yard::attempt,
+    settle: yard::settle,
+};
+
+pub const BASELINE: Engine = Engine {
+    name: "C baseline",
+    check: baseline::check,
+    start: baseline::start,
+    offered: baseline::offered,
+    bits: baseline::offered_bits,
+    attempt: baseline::attempt,
+    settle: baseline::settle,
+};
+
+impl Engine {
+    /// Makes the call; the image is lent for writing only where the call may write.
+    pub fn make(&self, call: Call, plan: &[u8], image: &mut Lent) -> Reply {
+        Reply::Answer(match call {
+            Call::Check => (self.check)(plan),
+            Call::Start => (self.start)(plan, image.bytes_mut()),
+            Call::Offered => (self.offered)(plan, image.locked()),
+            Call::Bits => return Reply::Bits((self.bits)(plan, image.locked())),
+            Call::Try(number) => (self.attempt)(plan, image.bytes_mut(), number),
+            Call::Settle => (self.settle)(plan, image.bytes_mut()),
+        })
+    }
+}

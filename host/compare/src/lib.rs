@@ -1,0 +1,21 @@
+//! The comparison's parts: `main.rs` compares by them, and other tests generate and damage plans by them.
+#![deny(unsafe_code)]
+
+pub mod baseline;
+pub mod checked;
+pub mod damage;
+pub mod difference;
+pub mod engines;
+pub mod fault;
+pub mod generate;
+pub mod images;
+pub mod lent;
+pub mod oracle;
+pub mod pages;
+#[cfg(test)]
+mod planted;
+pub mod rng;
+pub mod sequences;
+pub mod spoil;
+pub mod tally;
+pub mod words;

@@ -1,0 +1,96 @@
+//! 13: an oracle state out of range or bad, a location or last port out of range, or an unused entry filled.
+
+use super::places::{Image, COMPONENTS, LAST_PORTS, LOCATIONS, ORACLE, VALUES, VARIABLES};
+use crate::faults::Fault;
+use crate::judged::NO_PORT;
+use crate::mend::Mend;
+use crate::tables::Tables;
+use crate::text::{counted, verdict};
+
+const LAST_COPY: &str = "the image was damaged: take the last good copy";
+
+pub fn faults(tables: &Tables, image: &Image) -> Vec<Fault> {
+    let components = tables.components.len();
+    let mut faults: Vec<Fault> = oracle(tables, image).into_iter().collect();
+    faults.extend((0..components).filter_map(|c| location(tables, image, c)));
+    faults.extend((components..COMPONENTS).filter_map(|c| unused_location(image, c)));
+    faults.extend((0..components).filter_map(|c| last_port(tables, image, c)));
+    faults.extend((components..COMPONENTS).filter_map(|c| unused_port(image, c)));
+    let unused = tables.variables.len()..VARIABLES;
+    faults.extend(unused.filter_map(|n| unused_value(image, n)));
+    faults
+}
+
+fn fault(place: usize, text: String, cure: String, mend: Option<Mend>) -> Fault {
+    Fault {
+        number: 13,
+        what: "image".to_string(),
+        place,
+        text,
+        cure,
+        mend,
+    }
+}
+
+fn oracle(tables: &Tables, image: &Image) -> Option<Fault> {
+    let state = image.oracle();
+    let text = match tables.oracle.get(usize::from(state)) {
+        None => {
+            let has = counted(tables.oracle.len(), "oracle state");
+            format!("oracle state {state}, but the plan has {has}")
+        }
+        Some(found) if found.verdict == 0 => {
+            format!(
+                "oracle state {state} has {}, and no lane is left in it",
+                verdict(0)
+            )
+        }
+        Some(_) => return None,
+    };
+    Some(fault(ORACLE, text, LAST_COPY.to_string(), None))
+}
+
+fn location(tables: &Tables, image: &Image, c: usize) -> Option<Fault> {
+    let (found, most) = (image.location(c), tables.components[c].locations);
+    (found >= most).then(|| {
+        let has = counted(most.into(), "location");
+        let text = format!("component {c} at location {found}, but it has {has}");
+        fault(LOCATIONS + c, text, LAST_COPY.to_string(), None)
+    })
+}
+
+fn last_port(tables: &Tables, image: &Image, c: usize) -> Option<Fault> {
+    let (found, most) = (image.last_port(c), tables.components[c].ports);
+    (found >= most && found != NO_PORT).then(|| {
+        let has = counted(most.into(), "port");
+        let text = format!("last port {found} of component {c}, but it has {has}");
+        let cure = format!("{LAST_COPY}; or 255 for none yet");
+        let place = LAST_PORTS + c;
+        fault(place, text, cure, Some(Mend::byte(place, NO_PORT)))
+    })
+}
+
+/// An entry of a component or variable that the plan lacks.
+fn unused(place: usize, entry: String, found: i32, free: u8, mend: Mend) -> Fault {
+    let text = format!("{entry}, which the plan lacks, is {found}, but unused ones are {free}");
+    fault(place, text, format!("{free} there"), Some(mend))
+}
+
+fn unused_location(image: &Image, c: usize) -> Option<Fault> {
+    let (found, place) = (image.location(c), LOCATIONS + c);
+    let entry = format!("the location of component {c}");
+    (found != 0).then(|| unused(place, entry, found.into(), 0, Mend::byte(place, 0)))
+}
+
+fn unused_port(image: &Image, c: usize) -> Option<Fault> {
+    let (found, place) = (image.last_port(c), LAST_PORTS + c);
+    let entry = format!("the last port of component {c}");
+    let mend = Mend::byte(place, NO_PORT);
+    (found != NO_PORT).then(|| unused(place, entry, found.into(), NO_PORT, mend))
+}
+
+fn unused_value(image: &Image, n: usize) -> Option<Fault> {
+    let (found, place) = (image.value(n), VALUES + 4 * n);
+    let mend = Mend::fields(&[(place, 0), (place + 2, 0)]);
+    (found != 0).then(|| unused(place, format!("v{n}"), found, 0, mend))
+}

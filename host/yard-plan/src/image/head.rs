@@ -1,0 +1,83 @@
+//! 11: the image is not 312 bytes. 12: bytes 0 to 7 or 9 to 15 do not match form 1 and the plan.
+
+use super::places::{Image, COUNTS, FORM, LETTERS, NUMBER, ZEROS};
+use crate::faults::Fault;
+use crate::layout;
+use crate::mend::Mend;
+use crate::tables::Tables;
+use crate::text::{count, list};
+
+const OTHER_PLAN: &str = "the plan that the lane was started with, or a lane started anew";
+const DAMAGED: &str = "the image was damaged: take the last good copy";
+
+pub fn length(length: usize) -> Option<Fault> {
+    let right = yard::IMAGE_BYTES;
+    (length != right).then(|| Fault {
+        number: 11,
+        what: "image".to_string(),
+        place: length.min(right),
+        text: format!("it has {}, but an image has {right}", count(length, "byte")),
+        cure: "hand in the whole image and nothing else".to_string(),
+        mend: (length > right).then_some(Mend::Cut(right)),
+    })
+}
+
+fn fault(place: usize, text: String, cure: &str, mend: Option<Mend>) -> Fault {
+    Fault {
+        number: 12,
+        what: "image".to_string(),
+        place,
+        text,
+        cure: cure.to_string(),
+        mend,
+    }
+}
+
+/// The plan's counts that an image repeats, with their names.
+fn counts(tables: &Tables) -> [(&'static str, usize); 3] {
+    [
+        ("components", tables.components.len()),
+        ("variables", tables.variables.len()),
+        ("interactions", tables.interactions.len()),
+    ]
+}
+
+/// Whether the image repeats the plan's number and counts.
+pub fn same_plan(plan: &[u8], tables: &Tables, image: &Image) -> bool {
+    let counts = counts(tables).into_iter().enumerate();
+    let mut counts = counts.map(|(n, (_, count))| usize::from(image.0[COUNTS + n]) == count);
+    counts.all(|same| same) && layout::number(plan) == Some(image.number())
+}
+
+pub fn faults(plan: &[u8], tables: &Tables, image: &Image) -> Vec<Fault> {
+    let mut faults = Vec::new();
+    if !image.0.starts_with(LETTERS) {
+        let found = image.0[..LETTERS.len()].escape_ascii();
+        let text = format!("letters \"{found}\", but an image begins with YARD");
+        let mend = Mend::Write(LETTERS.iter().copied().enumerate().collect());
+        faults.push(fault(0, text, DAMAGED, Some(mend)));
+    }
+    if image.0[FORM] != 1 {
+        let text = format!("form {}, but there is form 1 alone", image.0[FORM]);
+        faults.push(fault(FORM, text, DAMAGED, Some(Mend::byte(FORM, 1))));
+    }
+    for (n, (name, count)) in counts(tables).into_iter().enumerate() {
+        let found = image.0[COUNTS + n];
+        if usize::from(found) != count {
+            let text = format!("{name} {found}, but the plan has {count}");
+            faults.push(fault(COUNTS + n, text, OTHER_PLAN, None));
+        }
+    }
+    if let Some(at) = ZEROS.into_iter().find(|&at| image.0[at] != 0) {
+        let found = list(&image.0[ZEROS]);
+        let text = format!("bytes 9 to 11 are {found}, but must be zero");
+        let mend = Mend::Write(ZEROS.map(|at| (at, 0)).collect());
+        faults.push(fault(at, text, DAMAGED, Some(mend)));
+    }
+    let number = layout::number(plan).unwrap_or(0);
+    if image.number() != number {
+        let text = format!("plan number {}, but the plan's is {number}", image.number());
+        faults.push(fault(NUMBER, text, OTHER_PLAN, None));
+    }
+    faults
+}

@@ -1,0 +1,115 @@
+//! 14: a mark at or above the interactions, or on one that is not enabled, is outranked, or would end in a good state.
+//! The reference says what is enabled and how a move ends.
+
+use reference::code;
+use reference::lane::{outranked, Lane};
+use reference::plan::{Plan, Transition};
+
+use super::places::{Image, MARKS};
+use crate::expression;
+use crate::faults::Fault;
+use crate::judged::NO_PORT;
+use crate::mend::Mend;
+use crate::tables::Tables;
+use crate::text::{bits, counted, list, verdict};
+
+fn fault(image: &Image, mark: usize, why: String) -> Fault {
+    let place = MARKS + mark / 8;
+    let cleared = image.0[place] & !(1 << (mark % 8));
+    Fault {
+        number: 14,
+        what: "image".to_string(),
+        place,
+        text: format!("mark on interaction {mark}, {why}"),
+        cure: format!(
+            "take the last good copy, or start anew; or clear bit {} here: {cleared} instead of {}",
+            mark % 8,
+            image.0[place]
+        ),
+        mend: Some(Mend::byte(place, cleared)),
+    }
+}
+
+/// Marks that no interaction of the plan has.
+pub fn outside(tables: &Tables, image: &Image) -> Vec<Fault> {
+    let interactions = tables.interactions.len();
+    let past = bits(image.marks()).filter(|&mark| mark >= interactions);
+    let why = || format!("but the plan has {}", counted(interactions, "interaction"));
+    past.map(|mark| fault(image, mark, why())).collect()
+}
+
+/// Marks on moves that may not be crossed off, in a lawful state.
+pub fn untrue(plan: &[u8], tables: &Tables, image: &Image) -> Vec<Fault> {
+    let Ok(plan) = Plan::read(plan) else {
+        return Vec::new();
+    };
+    let lane = lane(tables, image);
+    let marks = bits(image.marks()).filter(|&mark| mark < tables.interactions.len());
+    let untrue =
+        marks.filter_map(|mark| Some(fault(image, mark, why(&plan, tables, &lane, mark)?)));
+    untrue.collect()
+}
+
+fn lane(tables: &Tables, image: &Image) -> Lane {
+    let components = 0..tables.components.len();
+    let port = |c| Some(image.last_port(c)).filter(|&port| port != NO_PORT);
+    Lane {
+        locations: components
+            .clone()
+            .map(|c| image.location(c).into())
+            .collect(),
+        last_ports: components.map(|c| port(c).map(usize::from)).collect(),
+        values: (0..tables.variables.len())
+            .map(|n| image.value(n))
+            .collect(),
+        oracle: image.oracle().into(),
+    }
+}
+
+/// Why a mark may not stand; none where the move ends bad and is on offer but for its mark.
+fn why(plan: &Plan, tables: &Tables, lane: &Lane, mark: usize) -> Option<String> {
+    let enabled = lane.enabled(plan);
+    let Some(after) = lane.after(plan, mark) else {
+        let why = not_enabled(plan, tables, lane, mark);
+        return Some(format!("which is not enabled: {why}"));
+    };
+    if outranked(plan, &enabled, mark) {
+        let above = (0..enabled.len()).filter(|&j| enabled[j] && plan.below(mark, j));
+        return Some(format!("which is outranked by {}", list(above)));
+    }
+    after.good(plan).then(|| {
+        let verdict = verdict(plan.oracle[after.oracle].verdict);
+        format!(
+            "which would end well: oracle state {}, {verdict}",
+            after.oracle
+        )
+    })
+}
+
+/// The first cause for which an interaction is not enabled.
+fn not_enabled(plan: &Plan, tables: &Tables, lane: &Lane, mark: usize) -> String {
+    let interaction = &plan.interactions[mark];
+    if !code::holds(plan, interaction.guard, lane) {
+        let words = tables.interactions[mark].guard.words(&tables.code);
+        let guard = words.and_then(expression::read);
+        return format!("its guard is false: {}", list(guard));
+    }
+    let ports = interaction.ports.iter().enumerate();
+    let mut named = ports.filter_map(|(c, port)| port.map(|port| (c, port)));
+    let stuck = named.find_map(|(c, port)| no_transition(plan, lane, c, port));
+    stuck.unwrap_or_default()
+}
+
+/// Why a component cannot go on through a port; none where it can.
+fn no_transition(plan: &Plan, lane: &Lane, component: usize, port: usize) -> Option<String> {
+    let location = lane.locations[component];
+    let here = |t: &&Transition| t.component == component && t.source == location && t.port == port;
+    let mut here = plan.transitions.iter().filter(here).peekable();
+    let way = format!("from location {location} through port {port}");
+    if here.peek().is_none() {
+        return Some(format!("component {component} has no transition {way}"));
+    }
+    let mut guards = here.map(|t| code::holds(plan, t.guard, lane));
+    (!guards.any(|holds| holds))
+        .then(|| format!("no transition of component {component} {way} has a true guard"))
+}

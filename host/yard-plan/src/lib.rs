@@ -1,0 +1,17 @@
+//! What a planner wants to know of a plan or an image: what it says, and what is wrong with it.
+//! The numbers are the library's own answers; the analysis here explains them.
+#![forbid(unsafe_code)]
+
+pub mod command;
+pub mod expression;
+pub mod faults;
+pub mod image;
+pub mod judged;
+pub mod layout;
+pub mod mend;
+pub mod read;
+pub mod report;
+pub mod show;
+pub mod tables;
+pub mod text;
+pub mod words;

@@ -1,0 +1,124 @@
+//! The library's answer with the faults that explain it.
+
+use std::fmt::Write;
+
+use crate::faults::{Analysis, Fault};
+
+/// Status of a plan or image that is accepted.
+pub const ACCEPTED: u8 = 0;
+pub const REFUSED: u8 = 1;
+/// The library's number is not the one that the analysis finds.
+pub const DIFFERENT: u8 = 3;
+
+/// Further faults that are listed.
+const MOST_FURTHER: usize = 100;
+
+/// The refusal's number of an answer; 0 for accepted.
+pub fn number(answer: yard::Answer) -> u32 {
+    match answer.kind {
+        yard::REFUSED => answer.number,
+        _ => 0,
+    }
+}
+
+/// The first lines, which say the library's number and whether the analysis differs, and the status.
+pub fn verdict(number: u32, analysed: u32) -> (String, u8) {
+    let mut output = match number {
+        0 => "accepted\n".to_string(),
+        _ => format!("refused {number}\n"),
+    };
+    if number == analysed {
+        let status = if number == 0 { ACCEPTED } else { REFUSED };
+        return (output, status);
+    }
+    let says = |number: u32| match number {
+        0 => "accepts".to_string(),
+        _ => format!("refuses with {number}"),
+    };
+    let (library, analysis) = (says(number), says(analysed));
+    let _ = writeln!(
+        output,
+        "the two differ: the library {library}, the analysis below {analysis}; the library's answer counts"
+    );
+    (output, DIFFERENT)
+}
+
+/// Answer, first fault and further faults.
+pub fn explained(number: u32, analysis: &Analysis) -> (String, u8) {
+    let (mut output, status) = verdict(number, analysis.first_number());
+    let Some((first, further)) = analysis.faults.split_first() else {
+        return (output, status);
+    };
+    output += &lines("", "", first);
+    if !further.is_empty() {
+        output += "further faults:\n";
+    }
+    for fault in further.iter().take(MOST_FURTHER) {
+        output += &lines("  ", &format!("{}: ", fault.number), fault);
+    }
+    if further.len() > MOST_FURTHER {
+        let _ = writeln!(output, "  and {} more", further.len() - MOST_FURTHER);
+    }
+    if let Some(rest) = analysis.rest {
+        let _ = writeln!(output, "{rest}");
+    }
+    (output, status)
+}
+
+fn lines(indent: &str, number: &str, fault: &Fault) -> String {
+    let Fault {
+        what,
+        place,
+        text,
+        cure,
+        ..
+    } = fault;
+    format!("{indent}{number}{what}, byte {place}: {text}\n{indent}  cure: {cure}\n")
+}
+
+#[cfg(test)]
+mod tests {
+    use super::*;
+    use crate::faults;
+
+    fn faulty(count: usize) -> Analysis {
+        let fault = faults::of_plan(&[]).faults.remove(0);
+        Analysis {
+            faults: vec![fault; count],
+            rest: None,
+        }
+    }
+
+    #[test]
+    fn the_librarys_number_comes_first_where_the_two_differ() {
+        let (output, status) = explained(7, &faulty(1));
+        let lines: Vec<&str> = output.lines().collect();
+        assert_eq!(lines[0], "refused 7");
+        assert_eq!(
+            lines[1],
+            "the two differ: the library refuses with 7, the analysis below refuses with 1; the library's answer counts"
+        );
+        assert!(lines[2].starts_with("file, byte 0: "));
+        assert_eq!(status, DIFFERENT);
+    }
+
+    #[test]
+    fn accepted_by_one_alone_differs_too() {
+        let (output, status) = explained(0, &faulty(1));
+        assert!(output.starts_with("accepted\nthe two differ: the library accepts, "));
+        assert_eq!(status, DIFFERENT);
+        let (output, status) = explained(3, &faulty(0));
+        assert!(output.contains("refuses with 3, the analysis below accepts"));
+        assert_eq!(status, DIFFERENT);
+    }
+
+    #[test]
+    fn the_list_is_cut_off_after_a_hundred() {
+        let (output, status) = explained(1, &faulty(101));
+        assert!(!output.contains("more"));
+        assert_eq!(status, REFUSED);
+        let (output, _) = explained(1, &faulty(113));
+        assert!(output.ends_with("  and 12 more\n"));
+        assert_eq!(output.matches("  1: file, byte 0").count(), 100);
+    }
+}

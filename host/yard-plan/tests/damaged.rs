@@ -1,0 +1,253 @@
+//! Damaged plans and images of the comparison's generator: the analysis finds the library's number, and its mends cure.
+
+use compare::rng::Rng;
+use compare::{damage, generate, images};
+use yard_plan::faults::{self, Fault};
+use yard_plan::mend::Mend;
+use yard_plan::{command, image, report, show};
+
+const PLANS: usize = 10_000;
+const IMAGES: usize = 10_000;
+
+fn library(plan: &[u8]) -> u32 {
+    report::number(yard::check(plan))
+}
+
+#[derive(Debug, Default, PartialEq, Eq)]
+struct Tally {
+    accepted: usize,
+    refused: [usize; 11],
+    single: [usize; 11],
+    cured: [usize; 11],
+    no_mend: [usize; 11],
+}
+
+#[test]
+fn the_first_number_is_the_librarys_and_single_faults_are_cured() {
+    let mut rng = Rng::new(12);
+    let mut tally = Tally::default();
+    for round in 0..PLANS {
+        let lawful = generate::plan(&mut rng).draft;
+        let plan = damage::plan(&mut rng, &lawful);
+        let number = library(&plan);
+        let faults = faults::of_plan(&plan).faults;
+        let first = faults.first().map_or(0, |fault| fault.number);
+        assert_eq!(first, number, "round {round}: {:?}", faults.first());
+        assert!(faults.windows(2).all(|w| w[0].number <= w[1].number));
+        match number {
+            0 => tally.accepted += 1,
+            _ => tally.refused[number as usize] += 1,
+        }
+        if let [fault] = &faults[..] {
+            mend(&mut tally, round, &plan, fault);
+        }
+    }
+    report(&tally);
+    let mended: Vec<usize> = (0..11).map(|n| tally.cured[n] + tally.no_mend[n]).collect();
+    assert_eq!(mended, tally.single);
+    assert!(tally.refused[1..].iter().all(|&count| count > 0));
+    assert!(tally.cured[1..].iter().all(|&count| count > 0));
+}
+
+/// Applies a single fault's mend, after which the plan is accepted; where there is none, says what holds instead.
+fn mend(tally: &mut Tally, round: usize, plan: &[u8], fault: &Fault) {
+    let number = fault.number as usize;
+    tally.single[number] += 1;
+    let Some(mend) = &fault.mend else {
+        tally.no_mend[number] += 1;
+        return without_mend(round, plan, fault);
+    };
+    let mut mended = plan.to_vec();
+    mend.apply(&mut mended);
+    let after = faults::of_plan(&mended).faults;
+    assert_eq!(
+        library(&mended),
+        0,
+        "round {round}: {fault:?}, then {after:?}"
+    );
+    tally.cured[number] += 1;
+}
+
+/// Three kinds of plans cannot be cured by writing bytes: fewer bytes than a header, sections laid out for a count outside its range, and a
+/// file that ends before its sections do.
+fn without_mend(round: usize, plan: &[u8], fault: &Fault) {
+    match fault.number {
+        1 => assert!(plan.len() < 48, "round {round}"),
+        2 => assert!(no_count_cures(plan, fault.place), "round {round}"),
+        3 => {
+            assert_eq!(fault.place, plan.len(), "round {round}");
+            let mut extended = plan.to_vec();
+            extended.resize(given_length(fault), 0);
+            assert!(!matches!(library(&extended), 1..=3), "round {round}");
+        }
+        number => panic!("round {round}: {number} has no mend: {fault:?}"),
+    }
+}
+
+/// Whether the plan is refused whatever is written into a field.
+fn no_count_cures(plan: &[u8], at: usize) -> bool {
+    let mut changed = plan.to_vec();
+    (0..=u16::MAX).all(|count| {
+        changed[at..at + 2].copy_from_slice(&count.to_le_bytes());
+        library(&changed) != 0
+    })
+}
+
+/// The length that the text says the counts give.
+fn given_length(fault: &Fault) -> usize {
+    let last = fault.text.rsplit(' ').next();
+    last.and_then(|number| number.parse().ok()).unwrap()
+}
+
+fn report(tally: &Tally) {
+    let sum = |row: &[usize; 11]| row.iter().sum::<usize>();
+    println!("{PLANS} plans, {} accepted", tally.accepted);
+    println!("number   refused  single fault  mended and accepted  no mend");
+    for n in 1..11 {
+        let (refused, single) = (tally.refused[n], tally.single[n]);
+        let (cured, none) = (tally.cured[n], tally.no_mend[n]);
+        println!("{n:6} {refused:9} {single:13} {cured:20} {none:8}");
+    }
+    let (refused, single) = (sum(&tally.refused), sum(&tally.single));
+    let (cured, none) = (sum(&tally.cured), sum(&tally.no_mend));
+    println!("   all {refused:9} {single:13} {cured:20} {none:8}");
+}
+
+/// A lane of the plan after a few settlings and tries, or with another state.
+fn lane(rng: &mut Rng, plan: &[u8], lawful: &reference::draft::Draft) -> Option<Vec<u8>> {
+    let mut image = vec![0; yard::IMAGE_BYTES];
+    if yard::start(plan, &mut image).kind != yard::ACCEPTED {
+        return None;
+    }
+    for _ in 0..rng.below(4) {
+        yard::settle(plan, &mut image);
+    }
+    for _ in 0..rng.below(4) {
+        let number = rng.below(lawful.interactions.len()) as u32;
+        yard::attempt(plan, &mut image, number);
+    }
+    Some(match rng.chance(30) {
+        true => images::redressed(rng, &image, lawful),
+        false => image,
+    })
+}
+
+#[test]
+fn the_first_number_of_an_image_is_the_librarys_and_single_faults_are_cured() {
+    let mut rng = Rng::new(13);
+    let mut met = [0; 15];
+    let (mut single, mut cured) = (0, 0);
+    let mut other = vec![0; yard::IMAGE_BYTES];
+    while met.iter().sum::<usize>() < IMAGES {
+        let lawful = generate::plan(&mut rng).draft;
+        let plan = lawful.bytes();
+        let Some(image) = lane(&mut rng, &plan, &lawful) else {
+            continue;
+        };
+        let damaged = images::damaged(&mut rng, &image, &lawful, &other);
+        other = image;
+        let number = report::number(yard::offered(&plan, &damaged));
+        let analysis = image::analyse(&plan, &damaged);
+        assert_eq!(analysis.first_number(), number, "{:?}", analysis.faults);
+        let (output, status) = image::show(&plan, &damaged);
+        assert!(!output.is_empty() && status == u8::from(number != 0));
+        met[number as usize] += 1;
+        if let [Fault {
+            mend: Some(mend), ..
+        }] = &analysis.faults[..]
+        {
+            let mut mended = damaged.clone();
+            mend.apply(&mut mended);
+            single += 1;
+            cured += usize::from(yard::offered(&plan, &mended).kind == yard::ACCEPTED);
+        }
+    }
+    println!("{IMAGES} images by number: {met:?}; single faults with a mend {single}, accepted after it {cured}");
+    assert!(met[11..].iter().all(|&count| count > 0));
+    assert_eq!(single, cured);
+}
+
+#[test]
+fn no_plan_and_no_image_makes_a_command_panic() {
+    let mut rng = Rng::new(14);
+    for _ in 0..2_000 {
+        let lawful = generate::plan(&mut rng).draft;
+        let mut plan = damage::plan(&mut rng, &lawful);
+        if rng.chance(40) {
+            // Most often the header is kept, so that the rest is read.
+            let kept = if rng.chance(80) { 48 } else { 0 };
+            let from = rng.between(kept.min(plan.len()), plan.len());
+            rng.fill(&mut plan[from..]);
+        }
+        let number = library(&plan);
+        let first = match number {
+            0 => "accepted".to_string(),
+            _ => format!("refused {number}"),
+        };
+        let mut image = vec![0; rng.pick(&[0, 311, 312, 312, 312, 313])];
+        rng.fill(&mut image);
+        for (output, status) in [show::plan(&plan), command::check(&plan)] {
+            assert_eq!(output.lines().next(), Some(&first[..]));
+            assert_eq!(status, u8::from(number != 0));
+        }
+        let (output, status) = image::show(&plan, &image);
+        assert!(output.starts_with("refused ") && status == 1);
+    }
+}
+
+/// The plan after the mends of its first faults in turn, and how many they were.
+fn mended(mut plan: Vec<u8>) -> (Vec<u8>, usize) {
+    for steps in 0..1_000 {
+        let faults = faults::of_plan(&plan).faults;
+        let Some(mend) = faults.first().and_then(|fault| fault.mend.as_ref()) else {
+            return (plan, steps);
+        };
+        mend.apply(&mut plan);
+    }
+    panic!("the mends do not end");
+}
+
+#[test]
+fn mends_one_after_the_other_end_with_an_accepted_plan() {
+    let mut rng = Rng::new(17);
+    let (mut several, mut accepted, mut most) = (0, 0, 0);
+    for round in 0..2_000 {
+        let lawful = generate::plan(&mut rng).draft;
+        let mut plan = damage::plan(&mut rng, &lawful);
+        for _ in 0..rng.below(4) {
+            let at = rng.below(plan.len().max(1)).max(48);
+            let byte = rng.byte();
+            plan.iter_mut().skip(at).take(1).for_each(|b| *b = byte);
+        }
+        several += usize::from(faults::of_plan(&plan).faults.len() > 1);
+        let (plan, steps) = mended(plan);
+        let number = library(&plan);
+        assert!(number <= 3, "round {round}: {number} is left");
+        accepted += usize::from(number == 0);
+        most = steps.max(most);
+    }
+    println!("2000 plans, {several} with several faults: {accepted} accepted after at most {most} mends, the rest have none");
+    assert!(several > 200 && accepted > 1_500);
+}
+
+#[test]
+fn a_mend_is_a_small_change() {
+    let mut rng = Rng::new(15);
+    for _ in 0..2_000 {
+        let lawful = generate::plan(&mut rng).draft;
+        let plan = damage::plan(&mut rng, &lawful);
+        for fault in faults::of_plan(&plan).faults {
+            match fault.mend {
+                Some(Mend::Write(writes)) => {
+                    let inside = writes.iter().all(|&(at, _)| at < plan.len());
+                    assert!(inside || plan.len() < 48);
+                    assert!(writes
+                        .iter()
+                        .any(|&(at, value)| plan.get(at) != Some(&value)));
+                }
+                Some(Mend::Cut(length)) => assert!(length < plan.len()),
+                None => assert!(fault.number <= 3 || fault.number == 10),
+            }
+        }
+    }
+}

@@ -1,0 +1,87 @@
+//! Whether include/yard.h says what the library's source and the definitions say.
+
+mod c;
+mod differences;
+mod planted;
+mod rattle;
+mod specs;
+mod tokens;
+
+/// Names with what they stand for.
+type Named<T> = Vec<(String, T)>;
+
+/// The header's enumerations; the first, of the length, has no name.
+const ENUMS: [&str; 4] = ["", "yard_image_place", "yard_kind", "yard_refusal"];
+
+/// The texts that are compared.
+#[derive(Clone)]
+struct Texts {
+    header: String,
+    /// crates/yard/src/lib.rt
+    source: String,
+    /// Three of crates/semantics/specs.
+    rules: String,
+    image: String,
+    calls: String,
+}
+
+impl Texts {
+    fn ours() -> Texts {
+        Texts {
+            header: include_str!("../../../../include/yard.h").into(),
+            source: include_str!("../../../../crates/yard/src/lib.rt").into(),
+            rules: include_str!("../../../../crates/semantics/specs/Rules.antt").into(),
+            image: include_str!("../../../../crates/semantics/specs/Image.antt").into(),
+            calls: include_str!("../../../../crates/semantics/specs/Calls.antt").into(),
+        }
+    }
+
+    /// What differs; that a text cannot be read is a difference too.
+    fn differences(&self) -> Vec<String> {
+        self.compared().unwrap_or_else(|unread| vec![unread])
+    }
+
+    fn compared(&self) -> Result<Vec<String>, String> {
+        let header = c::Header::read(&self.header)?;
+        if !header.enums.iter().map(|(name, _)| name).eq(ENUMS) {
+            return Err("the header's enumerations are other ones".into());
+        }
+        let rules = [&self.rules, &self.image, &self.calls].map(|text| specs::rules(text));
+        Ok([
+            differences::named(&header.functions, &rattle::exported(&self.source)?),
+            differences::named(header.list("yard_kind"), &specs::kinds(&self.calls)),
+            differences::refusals(header.list("yard_refusal"), &rules.concat()),
+            differences::named(header.list(""), &specs::length(&self.image)?),
+            differences::named(
+                header.list("yard_image_place"),
+                &specs::places(&self.image)?,
+            ),
+            differences::packing(&self.header, &self.calls),
+        ]
+        .concat())
+    }
+}
+
+#[test]
+fn the_header_is_as_the_source_and_the_definitions() {
+    assert_eq!(Texts::ours().differences(), [""; 0]);
+}
+
+#[test]
+fn the_crate_for_rust_has_the_numbers_of_the_header() {
+    let header = c::Header::read(&Texts::ours().header).unwrap();
+    let ours = [
+        ("YARD_ACCEPTED", yard::ACCEPTED),
+        ("YARD_COMMITTED", yard::COMMITTED),
+        ("YARD_CANCELLED", yard::CANCELLED),
+        ("YARD_STALLED", yard::STALLED),
+        ("YARD_PENNED", yard::PENNED),
+        ("YARD_REFUSED", yard::REFUSED),
+    ];
+    assert_eq!(
+        header.list("yard_kind"),
+        ours.map(|(name, n)| (name.to_string(), n))
+    );
+    let length = ("YARD_IMAGE_BYTES".to_string(), yard::IMAGE_BYTES as u32);
+    assert_eq!(header.list(""), [length]);
+}

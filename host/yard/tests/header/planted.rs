@@ -1,0 +1,114 @@
+//! Planted mismatches: each has to be found and named.
+
+use crate::Texts;
+
+/// A text, what is replaced in it, by what, and the beginnings of all differences then found.
+const PLANTED: &str = r##"
+# a renamed function
+header | yard_settle( | yard_settled( | yard_settle is not in the header; yard_settled: the header alone has
+source | fn yard_settle( | fn yard_settled( | yard_settled is not in the header; yard_settle: the header alone has
+# a missing function
+header | uint32_t yard_check(const uint8_t *plan, size_t plan_len); |  | yard_check is not in the header, wanted: uint32_t (const
+source | extern "C" fn yard_try( | fn yard_try( | yard_try: the header alone has uint32_t (const
+# an extra function
+header | uint32_t yard_check( | uint32_t yard_stop(void); uint32_t yard_check( | yard_stop: the header alone has uint32_t (void)
+source | // Settles | extern "C" fn yard_stop(n: u64) -> u32 {} // | yard_stop is not in the header, wanted: uint32_t (uint64_t n)
+header | uint32_t yard_check( | uint64_t yard_settle(void); uint32_t yard_check( | yard_settle is twice in the header
+# swapped parameters
+header | const uint8_t *plan, size_t plan_len); | size_t plan_len, const uint8_t *plan); | yard_check: the header has
+header | size_t image_len, uint32_t interaction | uint32_t interaction, size_t image_len | yard_try: the header has
+source | yard_start(plan: &[u8], image: &mut [u8]) | yard_start(image: &mut [u8], plan: &[u8]) | yard_start: the header has
+# a renamed or missing parameter
+header | uint32_t interaction | uint32_t move | yard_try: the header has
+header | , uint32_t interaction |  | yard_try: the header has
+# another type
+header | uint32_t interaction | uint64_t interaction | yard_try: the header has
+source | interaction: u32 | interaction: u64 | yard_try: the header has
+source | yard_offered(plan: &[u8], image: &[u8]) | yard_offered(plan: &[u8], image: &mut [u8]) | yard_offered: the header has
+source | interaction: u32 | interaction: Move | yard_try of the source cannot be read
+# another result
+header | uint64_t yard_offered_bits | uint32_t yard_offered_bits | yard_offered_bits: the header has uint32_t
+source | interaction: u32) -> u32 | interaction: u32) -> u64 | yard_try: the header has uint32_t
+# another kind
+header | YARD_PENNED = 4 | YARD_PENNED = 6 | YARD_PENNED: the header has 6, wanted: 4
+calls | penned = record { kind = 4 | penned = record { kind = 3 | YARD_PENNED: the header has 4, wanted: 3
+header | YARD_STALLED = 3, |  | YARD_STALLED is not in the header, wanted: 3
+header | YARD_REFUSED = 5 | YARD_REFUSED = 5, YARD_LATE = 6 | YARD_LATE: the header alone has 6
+# another refusal number
+header | YARD_MARKED = 19 | YARD_MARKED = 20 | YARD_MARKED: the header has 20, wanted: 19
+header | YARD_BAD_HEAD = 1 | YARD_BAD_HEAD = 2 | YARD_BAD_HEAD stands before YARD_BAD_COUNT; YARD_BAD_HEAD: the header has 2, wanted: 1
+rules | rule 9 ( | rule 8 ( | 8 is the number of two rules; 8 is the number of two rules; YARD_BAD_ORACLE: the header has 9, wanted: 8
+calls | rule 15 ( | rule 20 ( | YARD_BAD_START: the header has 15, wanted: 20
+# two rules with each other's numbers
+rules | (headOk p) ∷ rule 2 (countsOk p) | (countsOk p) ∷ rule 2 (headOk p) | YARD_BAD_COUNT: the header has 2, wanted: 1; YARD_BAD_HEAD: the header has 1, wanted: 2
+# a missing or extra refusal
+header | YARD_OUTRANKED = 18, |  | YARD_OUTRANKED is not in the header, wanted: 18
+image | rule 12 (headMatches p b) ∷ |  | YARD_OTHER_PLAN: the header alone has 12
+calls | ∷ rule 19 ( | ∷ rule 20 (late p b) ∷ rule 19 ( | rule 20 has no name: late p b
+header | YARD_MARKED = 19 | YARD_MARKED = 19, YARD_LATE = 20 | YARD_LATE: the header alone has 20
+# another length or place of the image
+header | YARD_IMAGE_BYTES = 312 | YARD_IMAGE_BYTES = 311 | YARD_IMAGE_BYTES: the header has 311, wanted: 312
+image | imageLength = 312 | imageLength = 320 | YARD_IMAGE_BYTES: the header has 312, wanted: 320
+header | YARD_IMAGE_MARKS = 16 | YARD_IMAGE_MARKS = 15 | YARD_IMAGE_MARKS: the header has 15, wanted: 16
+header | YARD_IMAGE_ORACLE = 8, |  | YARD_IMAGE_ORACLE is not in the header, wanted: 8
+image | valuePlace v = 56 | valuePlace v = 60 | YARD_IMAGE_VALUES: the header has 56, wanted: 60
+image | ∷ q ∷ 0 ∷ | ∷ q ∷ | YARD_IMAGE_PLAN_NUMBER: the header has 12, wanted: 11
+# another packing
+header | >> 16 | >> 8 | the header's directives are other ones: Some("#define YARD_KIND(answer) ((uint32_t)(answer) >> 8)")
+header | #define YARD_H | #define YARD_H 1 | the header's directives are other ones: Some("#define YARD_H 1")
+calls | a .kind * 65536 | a .kind * 256 | not found: packed a
+# an enumeration more or less
+header | enum yard_kind { | enum { YARD_LATE = 9 }; enum yard_kind { | the header's enumerations are other ones
+header | enum yard_kind { | enum yard_answer { | the header's enumerations are other ones
+# what cannot be read
+header | enum yard_kind { | typedef int answer; enum yard_kind { | cannot be read in the header: typedef int answer
+header | YARD_PENNED = 4 | YARD_PENNED | cannot be read in the header: enum yard_kind
+"##;
+
+fn side<'a>(texts: &'a mut Texts, name: &str) -> &'a mut String {
+    match name {
+        "header" => &mut texts.header,
+        "source" => &mut texts.source,
+        "rules" => &mut texts.rules,
+        "image" => &mut texts.image,
+        "calls" => &mut texts.calls,
+        other => panic!("no text is called {other}"),
+    }
+}
+
+/// Replaces the one place where it stands.
+fn edit(text: &mut String, from: &str, to: &str) {
+    assert_eq!(text.matches(from).count(), 1, "{from}");
+    *text = text.replace(from, to);
+}
+
+#[test]
+fn each_planted_mismatch_is_found_and_named() {
+    for line in PLANTED
+        .lines()
+        .filter(|l| !l.is_empty() && !l.starts_with('#'))
+    {
+        let [name, from, to, wanted] = line.split(" | ").collect::<Vec<_>>()[..] else {
+            panic!("not four parts: {line}");
+        };
+        let mut texts = Texts::ours();
+        edit(side(&mut texts, name), from, to);
+        let found = texts.differences();
+        let wanted: Vec<&str> = wanted.split("; ").collect();
+        assert_eq!(found.len(), wanted.len(), "{line}\n{found:#?}");
+        for (difference, beginning) in found.iter().zip(wanted) {
+            assert!(difference.starts_with(beginning), "{line}\n{found:#?}");
+        }
+    }
+}
+
+#[test]
+fn two_refusals_with_each_others_numbers_are_found() {
+    let mut texts = Texts::ours();
+    edit(&mut texts.header, "NOT_ENABLED = 17", "NOT_ENABLED = 18");
+    edit(&mut texts.header, "OUTRANKED = 18", "OUTRANKED = 17");
+    let found = texts.differences().join("; ");
+    assert!(found.contains("YARD_NOT_ENABLED stands before YARD_OUTRANKED"));
+    assert!(found.contains("YARD_NOT_ENABLED: the header has 18, wanted: 17"));
+    assert!(found.contains("YARD_OUTRANKED: the header has 17, wanted: 18"));
+}
