@@ -33,12 +33,13 @@ enum yard_image_place {
     YARD_IMAGE_VALUES = 56       /* 4 bytes a variable: a signed number */
 };
 
+/* A move is eligible where it is enabled and no enabled move lies above it. */
 enum yard_kind {
     YARD_ACCEPTED = 0,  /* number 0 */
     YARD_COMMITTED = 1, /* number: the interaction; the image holds the lane after it, with no marks */
     YARD_CANCELLED = 2, /* number: the interaction; its mark is set and no other byte differs */
     YARD_STALLED = 3,   /* number 0: no move is enabled; no byte changes */
-    YARD_PENNED = 4,    /* number 0: moves are enabled and none ends good; every eligible one is marked */
+    YARD_PENNED = 4,    /* number 0: moves are enabled, and no eligible one ends good; every eligible one is marked */
     YARD_REFUSED = 5    /* number: one of enum yard_refusal; no byte changes */
 };
 

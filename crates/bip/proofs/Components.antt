@@ -4,20 +4,21 @@ use mathlib.Core.Logic.{_⊎_, inl, inr, _↔_}
 use Prim.Native.Nat.{ℕ, _≤_, _<_}
 use native.Mathlib.Nat.{le-trans}
 use native.Mathlib.Omega.{arith}
-use mathlib.Core.Bool.{Bool, true, false, cond, _||_}
+use mathlib.Core.Bool.{Bool, true, false, cond, _&&_, _||_}
 use mathlib.Core.List.{List}
 use lib.ListN.{length, getD, List·getD-eq-default}
 use lib.Seq.{ext-getD}
 use lib.Dec.{ltb, eqb}
 use lib.IntN.{ℤ, pos}
+use Rattle.semantics.specs.Bytes.{allOf}
 use Rattle.semantics.specs.Signed.{wrap}
-use Rattle.semantics.specs.Plan.{Plan, components, variables, locations, ports, owner}
+use Rattle.semantics.specs.Plan.{Plan, components, variables, locations, ports, owner, takesPart}
 use Rattle.semantics.specs.Code.{State, ownedBy, sharedIn}
 use Rattle.semantics.specs.Rules.{variableOk, planRefusal}
 use Rattle.semantics.specs.Move.{Configuration, oracleInRange}
 use Rattle.semantics.specs.Image.{locationOk, lastPortOk}
-use Rattle.bip.specs.Steps.{Local, restrictedTo, restricted, component, Q}
-use Rattle.semantics.proofs.Basics.{bool-cases, or-cases, or-left, or-right, each, all-of, ltb-true, ltb-false, lt-ltb, le-ltb, eqb-true, eqb-same, eq-eqb, length-table, getD-table}
+use Rattle.bip.specs.Steps.{Local, restrictedTo, variableOf, restricted, component, Q, variableIn}
+use Rattle.semantics.proofs.Basics.{bool-cases, and-both, both-and, or-cases, or-left, or-right, each, ltb-true, ltb-false, lt-ltb, le-ltb, eqb-true, eqb-same, eq-eqb, length-table, getD-table}
 use Rattle.semantics.proofs.AcceptedPlan.{accepted-plan, Counts, counts-of}
 use Rattle.semantics.proofs.Commute.{Agree}
 use Rattle.semantics.proofs.Evaluator.{low-word}
@@ -30,14 +31,32 @@ counted p z = counts-of p (accepted-plan p z .counts)
 -- ---- valuations
 
 -- a variable of a component is one of the plan's, with that owner
-pub owned : (p : Plan) (c v : ℕ) → ownedBy p c v ≡ true → (v < variables p) × (owner p v ≡ c)
-unfolding ownedBy
-owned p c v o = let h = each _ o in (ltb-true _ _ (h .0), eqb-true _ _ (h .1 .0))
+pub owned : (p : Plan) (c v : ℕ) → variableOf p c v ≡ true → (v < variables p) × (owner p v ≡ c)
+unfolding variableOf
+owned p c v o = let (l, e) = and-both (ltb v (variables p)) (eqb (owner p v) c) o in (ltb-true _ _ l, eqb-true _ _ e)
+
+-- a variable has one owner
+pub one-owner : (p : Plan) (c d : ℕ) → (c ≡ d → ⊥) → (v : ℕ) → variableOf p c v ≡ true → variableOf p d v ≡ false
+one-owner p c d different v o =
+    bool-cases (variableOf p d v) (λ q. absurd (different (sym (owned p c v o .1) ∙ owned p d v q .1))) (λ q. q)
+
+and-true : (b : Bool) → (b && true) ≡ b
+and-true true = refl
+and-true false = refl
+
+-- the variables that the code of a component, and of an interaction, may name (01) are X of the component, and of the interaction
+pub names-own : (p : Plan) (c : ℕ) → ownedBy p c ≡ variableOf p c
+unfolding ownedBy variableOf allOf
+names-own p c = λ i v. ltb v (variables p) && and-true (eqb (owner p v) c) i
+
+pub names-shared : (p : Plan) (i : ℕ) → sharedIn p i ≡ variableIn p i
+unfolding sharedIn variableIn allOf
+names-shared p i = λ k v. ltb v (variables p) && and-true (takesPart p i (owner p v)) k
 
 -- a variable of the plan is its owner's
-pub owned-by-owner : (p : Plan) (v : ℕ) → v < variables p → ownedBy p (owner p v) v ≡ true
-unfolding ownedBy
-owned-by-owner p v l = all-of _ (lt-ltb _ _ l, (eqb-same (owner p v), tt))
+pub owned-by-owner : (p : Plan) (v : ℕ) → v < variables p → variableOf p (owner p v) v ≡ true
+unfolding variableOf
+owned-by-owner p v l = both-and (lt-ltb _ _ l) (eqb-same (owner p v))
 
 module _ (names : ℕ → Bool) where
   pub restricted-long : (vs : List ℤ) → length (restrictedTo names vs) ≡ 64
@@ -80,12 +99,13 @@ module _ (names : ℕ → Bool) where
     )
 
 -- the variables of a component and those of the components taking part are the plan's
-pub few-owned : (p : Plan) → planRefusal p ≡ 0 → (c v : ℕ) → ownedBy p c v ≡ true → v < 64
+pub few-owned : (p : Plan) → planRefusal p ≡ 0 → (c v : ℕ) → variableOf p c v ≡ true → v < 64
 few-owned p z c v o = le-trans (owned p c v o .0) (counted p z .variables≤)
 
-pub few-shared : (p : Plan) → planRefusal p ≡ 0 → (i v : ℕ) → sharedIn p i v ≡ true → v < 64
-unfolding sharedIn
-few-shared p z i v s = let (l, _) = each _ s in le-trans (ltb-true _ _ l) (counted p z .variables≤)
+pub few-shared : (p : Plan) → planRefusal p ≡ 0 → (i v : ℕ) → variableIn p i v ≡ true → v < 64
+unfolding variableIn
+few-shared p z i v s =
+    let (l, _) = and-both (ltb v (variables p)) (takesPart p i (owner p v)) s in le-trans (ltb-true _ _ l) (counted p z .variables≤)
 
 -- ---- states
 
@@ -206,7 +226,7 @@ module _ (p : Plan) (z : planRefusal p ≡ 0) (q r : State) (a : Q p q) (b : Q p
       bool-cases (ltb v (variables p))
       (λ e.
       let k = ltb-true v (variables p) e in
-      same-restricted (ownedBy p (owner p v)) (few-owned p z (owner p v)) (q .values) (r .values) .0 (same-own (owner p v) (owner-known v k)) v (owned-by-owner p v k))
+      same-restricted (variableOf p (owner p v)) (few-owned p z (owner p v)) (q .values) (r .values) .0 (same-own (owner p v) (owner-known v k)) v (owned-by-owner p v k))
       (λ e. a .no-value v (ltb-false _ _ e) ∙ sym (b .no-value v (ltb-false _ _ e))))
 
   -- 002 definition 7, Q = B_1.Q × .. × B_n.Q: a state is its components

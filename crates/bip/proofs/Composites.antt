@@ -10,17 +10,17 @@ use lib.Dec.{ltb, eqb}
 use lib.IntN.{ℤ, pos}
 use Rattle.semantics.specs.Bytes.{implies, lowest}
 use Rattle.semantics.specs.Signed.{holds}
-use Rattle.semantics.specs.Plan.{Plan, Span, components, transitions, interactions, firstOracle, componentOf, guardOf, actionOf, portIn, takesPart, interactionGuard, transferOf}
-use Rattle.semantics.specs.Code.{State, valued, guardHolds, acted, asGuard, asUpdate, ownedBy, sharedIn, spanOk}
+use Rattle.semantics.specs.Plan.{Plan, Span, components, variables, transitions, interactions, firstOracle, componentOf, guardOf, actionOf, portIn, takesPart, interactionGuard, transferOf, owner}
+use Rattle.semantics.specs.Code.{State, valued, guardHolds, acted, asGuard, asUpdate, spanOk}
 use Rattle.semantics.specs.Rules.{planRefusal}
 use Rattle.semantics.specs.Move.{Configuration, ready, chosen, chosenIn, enabled, actedBelow, fired, judged, after}
-use Rattle.bip.specs.Steps.{Local, restrictedTo, restricted, Able, Takes, Atomic, atomic, component, Q, attached, received, Composite, fire, ByLowest, Chosen}
-use Rattle.semantics.proofs.Basics.{bool-cases, absurd-bool, implies-yes, each, all-of, lt-ltb, eqb-true, eq-eqb, below-suc, every-all, ltb-true, lowest-is, lowest-unique, lowest-none}
+use Rattle.bip.specs.Steps.{Local, restrictedTo, variableOf, restricted, Able, Takes, Atomic, atomic, component, Q, variableIn, attached, received, Composite, fire, ByLowest, Chosen}
+use Rattle.semantics.proofs.Basics.{bool-cases, absurd-bool, and-both, both-and, implies-yes, each, all-of, lt-ltb, eqb-true, eq-eqb, below-suc, every-all, ltb-true, lowest-is, lowest-unique, lowest-none}
 use Rattle.semantics.proofs.AcceptedPlan.{accepted-plan, guard-ok, action-ok, interaction-guard-ok, transfer-ok}
 use Rattle.semantics.proofs.OneMove.{uses, uses-lowest, part-moves, other-stays}
 use Rattle.semantics.proofs.Sound.{sound-after}
-use Rattle.semantics.proofs.Commute.{Agree, local, frame, acted-long, one-owner}
-use Rattle.bip.proofs.Components.{counted, owned, few-owned, few-shared, restricted-long, restricted-other, restricted-is, restricted-agrees, same-restricted, state-of, sound-of, same-component, state-is-tuple}
+use Rattle.semantics.proofs.Commute.{Agree, local, frame, acted-long}
+use Rattle.bip.proofs.Components.{counted, owned, one-owner, names-own, names-shared, few-owned, few-shared, restricted-long, restricted-other, restricted-is, restricted-agrees, same-restricted, state-of, sound-of, same-component, state-is-tuple}
 
 -- ---- atomic components
 
@@ -30,13 +30,21 @@ takes-one p c port t q vs a b h k =
     λ j. record { location = (h .reaches ∙ sym (k .reaches)) j; valuation = (h .computes ∙ sym (k .computes)) j; lastPort = (h .remembers ∙ sym (k .remembers)) j }
 
 module _ (p : Plan) (z : planRefusal p ≡ 0) where
-  own-guard : (c t : ℕ) → t < transitions p → componentOf p t ≡ c → spanOk p asGuard (ownedBy p c) (guardOf p t) ≡ true
-  own-guard c t l e = subst (λ (d : ℕ). spanOk p asGuard (ownedBy p d) (guardOf p t) ≡ true) e (guard-ok p (accepted-plan p z) t l)
+  -- 01's rule on the variables that code names, of X: "A transition's code names its own component's variables, an interaction's those of components
+  -- taking part"
+  own-guard : (c t : ℕ) → t < transitions p → componentOf p t ≡ c → spanOk p asGuard (variableOf p c) (guardOf p t) ≡ true
+  own-guard c t l e = rw (← names-own p c, ← e) (guard-ok p (accepted-plan p z) t l)
 
-  own-action : (c t : ℕ) → t < transitions p → componentOf p t ≡ c → spanOk p asUpdate (ownedBy p c) (actionOf p t) ≡ true
-  own-action c t l e = subst (λ (d : ℕ). spanOk p asUpdate (ownedBy p d) (actionOf p t) ≡ true) e (action-ok p (accepted-plan p z) t l)
+  own-action : (c t : ℕ) → t < transitions p → componentOf p t ≡ c → spanOk p asUpdate (variableOf p c) (actionOf p t) ≡ true
+  own-action c t l e = rw (← names-own p c, ← e) (action-ok p (accepted-plan p z) t l)
 
-  -- a guard asks a valuation restricted to the variables that it may name what it asks the whole state
+  shared-guard : (i : ℕ) → i < interactions p → spanOk p asGuard (variableIn p i) (interactionGuard p i) ≡ true
+  shared-guard i l = rw (← names-shared p i) (interaction-guard-ok p (accepted-plan p z) i l)
+
+  shared-transfer : (i : ℕ) → i < interactions p → spanOk p asUpdate (variableIn p i) (transferOf p i) ≡ true
+  shared-transfer i l = rw (← names-shared p i) (transfer-ok p (accepted-plan p z) i l)
+
+  -- a guard holds of a valuation restricted to the variables that it may name exactly where it holds of the whole state
   restricted-guard : (names : ℕ → Bool) → ((v : ℕ) → names v ≡ true → v < 64) → (g : Span) → spanOk p asGuard names g ≡ true → (q : State) → length (q .values) ≡ 64
       → guardHolds p (valued (restrictedTo names (q .values))) g ≡ guardHolds p q g
   unfolding guardHolds
@@ -46,7 +54,7 @@ module _ (p : Plan) (z : planRefusal p ≡ 0) where
 
   same-guard : (q : State) → length (q .values) ≡ 64 → (c t : ℕ) → t < transitions p → componentOf p t ≡ c
       → guardHolds p (valued (restricted p c (q .values))) (guardOf p t) ≡ guardHolds p q (guardOf p t)
-  same-guard q long c t l e = restricted-guard (ownedBy p c) (few-owned p z c) (guardOf p t) (own-guard c t l e) q long
+  same-guard q long c t l e = restricted-guard (variableOf p c) (few-owned p z c) (guardOf p t) (own-guard c t l e) q long
 
 module _ (p : Plan) (z : planRefusal p ≡ 0) (q : State) (h : Q p q) where
   able-ready : (c port t : ℕ) → Able p c port t (component p q c) → ready p q c port t ≡ true
@@ -77,21 +85,21 @@ module _ (p : Plan) (z : planRefusal p ≡ 0) (q : State) (h : Q p q) where
     -- 002 definition 7, G_a(v(X)): the guard of an interaction sees no more than the variables of the components taking part
     pub guard-sees : guardHolds p (attached p q i) (interactionGuard p i) ≡ guardHolds p q (interactionGuard p i)
     unfolding attached
-    guard-sees = restricted-guard p z (sharedIn p i) (few-shared p z i) (interactionGuard p i) (interaction-guard-ok p (accepted-plan p z) i l) q (h .values-long)
+    guard-sees = restricted-guard p z (variableIn p i) (few-shared p z i) (interactionGuard p i) (shared-guard p z i l) q (h .values-long)
 
-    own-shared : (c v : ℕ) → takesPart p i c ≡ true → ownedBy p c v ≡ true → sharedIn p i v ≡ true
-    unfolding sharedIn
-    own-shared c v t o = let (k, e) = owned p c v o in all-of _ (lt-ltb _ _ k, (rw e t, tt))
+    own-shared : (c v : ℕ) → takesPart p i c ≡ true → variableOf p c v ≡ true → variableIn p i v ≡ true
+    unfolding variableIn
+    own-shared c v t o = let (k, e) = owned p c v o in both-and (lt-ltb _ _ k) (rw e t)
 
     -- 002 definition 7, F_{a_i}(v(X)): nor does its transfer, in what a component taking part receives
     pub transfer-sees : (c : ℕ) → takesPart p i c ≡ true → received p q i c ≡ restricted p c (acted p q (transferOf p i) .values)
     unfolding received attached
     transfer-sees c t =
-        same-restricted (ownedBy p c) (few-owned p z c) (acted p (valued (restrictedTo (sharedIn p i) (q .values))) (transferOf p i) .values)
+        same-restricted (variableOf p c) (few-owned p z c) (acted p (valued (restrictedTo (variableIn p i) (q .values))) (transferOf p i) .values)
         (acted p q (transferOf p i) .values) .1
         (λ v o.
-        local p asUpdate (sharedIn p i) refl (transferOf p i) (transfer-ok p (accepted-plan p z) i l) (valued (restrictedTo (sharedIn p i) (q .values))) q
-        (restricted-agrees (sharedIn p i) (few-shared p z i) (q .values) (h .values-long)) .1 .same-at v (own-shared c v t o))
+        local p asUpdate (variableIn p i) refl (transferOf p i) (shared-transfer p z i l) (valued (restrictedTo (variableIn p i) (q .values))) q
+        (restricted-agrees (variableIn p i) (few-shared p z i) (q .values) (h .values-long)) .1 .same-at v (own-shared c v t o))
 
     -- ---- the move is a step
 
@@ -99,20 +107,20 @@ module _ (p : Plan) (z : planRefusal p ≡ 0) (q : State) (h : Q p q) where
       transferred : State
       transferred = acted p q (transferOf p i)
 
-      use-own : (c : ℕ) → c < components p → takesPart p i c ≡ true → spanOk p asUpdate (ownedBy p c) (actionOf p (chosenIn p q i c)) ≡ true
+      use-own : (c : ℕ) → c < components p → takesPart p i c ≡ true → spanOk p asUpdate (variableOf p c) (actionOf p (chosenIn p q i c)) ≡ true
       use-own c k t = let u = uses p q i c e k t in own-action p z c (chosenIn p q i c) (u .known) (u .own)
 
       -- the turn of another component changes none of c's variables
-      other-turn : (c n : ℕ) → (c ≡ n → ⊥) → n < components p → (v : ℕ) → ownedBy p c v ≡ true
+      other-turn : (c n : ℕ) → (c ≡ n → ⊥) → n < components p → (v : ℕ) → variableOf p c v ≡ true
           → getD (actedBelow p q i (suc n) .values) v (pos 0) ≡ getD (actedBelow p q i n .values) v (pos 0)
       unfolding actedBelow
       other-turn c n different k v o =
           bool-cases (takesPart p i n)
-          (λ t. rw t (frame p asUpdate (ownedBy p n) (actionOf p (chosenIn p q i n)) (use-own n k t) (actedBelow p q i n) v (one-owner p c n different v o)))
+          (λ t. rw t (frame p asUpdate (variableOf p n) (actionOf p (chosenIn p q i n)) (use-own n k t) (actedBelow p q i n) v (one-owner p c n different v o)))
           (λ t. rw t refl)
 
       -- before its own turn, c's variables are as the transfer left them
-      before-turn : (c n : ℕ) → n ≤ c → c < components p → (v : ℕ) → ownedBy p c v ≡ true
+      before-turn : (c n : ℕ) → n ≤ c → c < components p → (v : ℕ) → variableOf p c v ≡ true
           → getD (actedBelow p q i n .values) v (pos 0) ≡ getD (transferred .values) v (pos 0)
       before-turn c zero m k v o = unfold actedBelow transferred in refl
       before-turn c (suc n) m k v o =
@@ -133,25 +141,25 @@ module _ (p : Plan) (z : planRefusal p ≡ 0) (q : State) (h : Q p q) where
       turned : ℕ → State
       turned c = cond (takesPart p i c) (acted p transferred (actionOf p (chosenIn p q i c))) transferred
 
-      own-turn : (c : ℕ) → c < components p → (v : ℕ) → ownedBy p c v ≡ true
+      own-turn : (c : ℕ) → c < components p → (v : ℕ) → variableOf p c v ≡ true
           → getD (actedBelow p q i (suc c) .values) v (pos 0) ≡ getD (turned c .values) v (pos 0)
       unfolding actedBelow turned
       own-turn c k v o =
-          let a : Agree (ownedBy p c) (actedBelow p q i c .values) (transferred .values)
+          let a : Agree (variableOf p c) (actedBelow p q i c .values) (transferred .values)
           = record { same-length = below-long c ∙ sym transferred-long; same-at = before-turn c c (le-refl c) k } in
           bool-cases (takesPart p i c)
-          (λ t. rw t (local p asUpdate (ownedBy p c) refl (actionOf p (chosenIn p q i c)) (use-own c k t) (actedBelow p q i c) transferred a .1 .same-at v o))
+          (λ t. rw t (local p asUpdate (variableOf p c) refl (actionOf p (chosenIn p q i c)) (use-own c k t) (actedBelow p q i c) transferred a .1 .same-at v o))
           (λ t. rw t (a .same-at v o))
 
       -- from its own turn on, c's variables are as it made them
-      after-turn : (c n : ℕ) → c < n → n ≤ components p → (v : ℕ) → ownedBy p c v ≡ true
+      after-turn : (c n : ℕ) → c < n → n ≤ components p → (v : ℕ) → variableOf p c v ≡ true
           → getD (actedBelow p q i n .values) v (pos 0) ≡ getD (turned c .values) v (pos 0)
       after-turn c zero m k v o = absurd (not-suc-le-zero m)
       after-turn c (suc n) m k v o =
           below-suc m (λ b. other-turn c n (λ d. lt-irrefl c (subst (λ (x : ℕ). c < x) (sym d) b)) k v o ∙ after-turn c n b (le-of-lt k) v o)
           (λ d. subst (λ (x : ℕ). getD (actedBelow p q i (suc x) .values) v (pos 0) ≡ getD (turned c .values) v (pos 0)) d (own-turn c (subst (λ (x : ℕ). x < components p) (sym d) k) v o))
 
-      fired-own : (c : ℕ) → c < components p → (v : ℕ) → ownedBy p c v ≡ true → getD (fired p q i .values) v (pos 0) ≡ getD (turned c .values) v (pos 0)
+      fired-own : (c : ℕ) → c < components p → (v : ℕ) → variableOf p c v ≡ true → getD (fired p q i .values) v (pos 0) ≡ getD (turned c .values) v (pos 0)
       unfolding fired
       fired-own c k v o = after-turn c (components p) k (le-refl (components p)) v o
 
@@ -164,22 +172,25 @@ module _ (p : Plan) (z : planRefusal p ≡ 0) (q : State) (h : Q p q) where
           let vs : List ℤ = transferred .values in
           let got : State = valued (restricted p c vs) in
           rw (transfer-sees c t)
-          (restricted-is (ownedBy p c) (fired p q i .values) (acted p got g .values) (acted-long p got g ∙ restricted-long (ownedBy p c) vs)
+          (restricted-is (variableOf p c) (fired p q i .values) (acted p got g .values) (acted-long p got g ∙ restricted-long (variableOf p c) vs)
           (λ v o. (fired-own c k v o ∙ rw t refl)
-          ∙ sym (local p asUpdate (ownedBy p c) refl g (use-own c k t) got transferred (restricted-agrees (ownedBy p c) (few-owned p z c) vs transferred-long) .1 .same-at v o))
-          (λ v o. frame p asUpdate (ownedBy p c) g (use-own c k t) got v o ∙ restricted-other (ownedBy p c) vs v o))
+          ∙ sym (local p asUpdate (variableOf p c) refl g (use-own c k t) got transferred (restricted-agrees (variableOf p c) (few-owned p z c) vs transferred-long) .1 .same-at v o))
+          (λ v o. frame p asUpdate (variableOf p c) g (use-own c k t) got v o ∙ restricted-other (variableOf p c) vs v o))
 
-      not-shared : (c v : ℕ) → takesPart p i c ≡ false → ownedBy p c v ≡ true → sharedIn p i v ≡ false
-      unfolding sharedIn
+      not-shared : (c v : ℕ) → takesPart p i c ≡ false → variableOf p c v ≡ true → variableIn p i v ≡ false
+      unfolding variableIn
       not-shared c v t o =
-          bool-cases (sharedIn p i v) (λ s. absurd-bool (subst (λ (d : ℕ). takesPart p i d ≡ true) (owned p c v o .1) (each _ s .1 .0)) t) (λ s. s)
+          bool-cases (variableIn p i v)
+          (λ s. let (_, part) = and-both (ltb v (variables p)) (takesPart p i (owner p v)) s in
+          absurd-bool (subst (λ (d : ℕ). takesPart p i d ≡ true) (owned p c v o .1) part) t)
+          (λ s. s)
 
       -- a component taking no part keeps its valuation
       other-keeps : (c : ℕ) → c < components p → takesPart p i c ≡ false → restricted p c (fired p q i .values) ≡ restricted p c (q .values)
       unfolding turned transferred
       other-keeps c k t =
-          same-restricted (ownedBy p c) (few-owned p z c) (fired p q i .values) (q .values) .1
-          (λ v o. (fired-own c k v o ∙ rw t refl) ∙ frame p asUpdate (sharedIn p i) (transferOf p i) (transfer-ok p (accepted-plan p z) i l) q v (not-shared c v t o))
+          same-restricted (variableOf p c) (few-owned p z c) (fired p q i .values) (q .values) .1
+          (λ v o. (fired-own c k v o ∙ rw t refl) ∙ frame p asUpdate (variableIn p i) (transferOf p i) (shared-transfer p z i l) q v (not-shared c v t o))
 
       begun : Configuration
       begun = record { state = q; oracle = firstOracle p }

@@ -18,11 +18,11 @@ use Rattle.semantics.specs.Run.{commits, committedMoves, leftBy}
 use Rattle.semantics.proofs.Basics.{bool-cases, absurd-bool, same-test, not-yes, eqb-true, eqb-false}
 use Rattle.semantics.proofs.Masks.{bit-zero}
 use Rattle.semantics.proofs.RuleLists.{Kept}
-use Rattle.semantics.proofs.RefusedUnchanged.{Refused, kind-5-unchanged}
+use Rattle.semantics.proofs.RefusedUnchanged.{Refused, same-not-refused, kind-5-unchanged}
 use Rattle.semantics.proofs.RefusalConditions.{calling}
 use Rattle.semantics.proofs.AcceptedPlan.{accepted-plan}
 use Rattle.semantics.proofs.Images.{marks-back, configuration-back}
-use Rattle.semantics.proofs.Sound.{shaped, sound-initial}
+use Rattle.semantics.proofs.Sound.{Sound, shaped, sound-initial}
 use Rattle.semantics.proofs.Ranking.{eligible-enabled, eligible-top, eligible-from}
 use Rattle.semantics.proofs.ImagesRead.{marked-same}
 use Rattle.semantics.proofs.Demand3.{Starts, start-plan}
@@ -47,7 +47,7 @@ recovery-disables (receives e) recovers j = refl
 pub continue-enables : {d d' : Disabler} → Disables d continue d' → AllEnabled d'
 continue-enables continues i = refl
 
--- an interaction is possible only while it is enabled
+-- an interaction is possible only while the disabler has it enabled
 pub only-while-enabled : {p : Plan} {system : System} {i : ℕ} {s s' : Supervised} {l : Label} → SupervisedStep p system i s l s' → s .disabler .enab i ≡ true
 only-while-enabled (continued (receives e) m k) = e
 only-while-enabled (recovered (receives e) m k) = e
@@ -85,7 +85,7 @@ start-holds p b e s begins all =
       marks = λ i l. no-marks p (initial p) i ∙ sym (ap not (all i));
     })
 
--- what holds of the states of the image's own configuration holds of every state that it holds
+-- what is shown for an image's own configuration with any disabler of its marks is shown for every state that the image holds
 by-held : (p : Plan) (b : Image) (P : Supervised → Type 0) → ((d : Disabler) → Marks p b d → P (supervised (configurationOf b) d))
     → (s : Supervised) → Holds p b s → P s
 by-held p b P f s h =
@@ -106,10 +106,10 @@ disabled-19 p b = by-held p b _ (refused-19 p b)
 
 -- ---- the calls
 
--- the answer to a try of i that shows as the label
-unfoldable pub shown : ℕ → Label → Answer
-shown i (did j) = committed j
-shown i ε = cancelled i
+-- the answer to a try of i that is a step with this label
+unfoldable pub triedAs : ℕ → Label → Answer
+triedAs i (did j) = committed j
+triedAs i ε = cancelled i
 
 module _ (p : Plan) (b : Image) (d : Disabler) (m : Marks p b d) (k : Known p b) where
   abbrev c : Configuration
@@ -121,8 +121,8 @@ module _ (p : Plan) (b : Image) (d : Disabler) (m : Marks p b d) (k : Known p b)
 
   -- a try that keeps its rules answers as the step of its interaction shows, and leaves an image of the state that the step leads to
   leads-held : (i : ℕ) → Kept (callRules p b (try i)) → Possible p (supervised c d) i → {l : Label} {s' : Supervised} → Leads p (supervised c d) i l s'
-      → (called p b (try i) .answer ≡ shown i l) × Holds p (called p b (try i) .image) s'
-  unfolding shown bytesAfter
+      → (called p b (try i) .answer ≡ triedAs i l) × Holds p (called p b (try i) .image) s'
+  unfolding triedAs bytesAfter
   leads-held i kept a (leads-on g) =
       let e = committed-exactly p b i .1 (kept, g) in
       (e, subst (λ (x : Image). Holds p x (supervised (after p c i) (allFrom i))) (sym (leaves p b (try i) e)) (held-on i (a .number<) (eligible-enabled p (c .state) i (a .is-eligible))))
@@ -143,7 +143,7 @@ module _ (p : Plan) (b : Image) (d : Disabler) (m : Marks p b d) (k : Known p b)
 
 -- a try that is not refused is a step of the supervised system, and its image holds the state that the step leads to
 pub try-supervised : (p : Plan) (b : Image) (i : ℕ) → ¬ Refused (called p b (try i) .answer) → (s : Supervised) → Holds p b s
-    → (l : Label) × (s' : Supervised) × SupervisedStep p (EngineStep p) i s l s' × (called p b (try i) .answer ≡ shown i l) × Holds p (called p b (try i) .image) s'
+    → (l : Label) × (s' : Supervised) × SupervisedStep p (EngineStep p) i s l s' × (called p b (try i) .answer ≡ triedAs i l) × Holds p (called p b (try i) .image) s'
 try-supervised p b i f =
     by-held p b _
     (λ d m.
@@ -156,9 +156,9 @@ try-supervised p b i f =
 
 -- and every step of the supervised system is such a try
 pub step-tried : (p : Plan) (b : Image) → Kept (planRules p ++ imageRules p b) → (s s' : Supervised) (i : ℕ) (l : Label) → Holds p b s → SupervisedStep p (EngineStep p) i s l s'
-    → (called p b (try i) .answer ≡ shown i l) × Holds p (called p b (try i) .image) s'
+    → (called p b (try i) .answer ≡ triedAs i l) × Holds p (called p b (try i) .image) s'
 step-tried p b first s s' i l =
-    by-held p b (λ s. SupervisedStep p (EngineStep p) i s l s' → (called p b (try i) .answer ≡ shown i l) × Holds p (called p b (try i) .image) s')
+    by-held p b (λ s. SupervisedStep p (EngineStep p) i s l s' → (called p b (try i) .answer ≡ triedAs i l) × Holds p (called p b (try i) .image) s')
     (λ d m t.
     let k : Known p b = known p b first in
     let (a, r) = step-means p (k .plan) i (k .sound) t in
@@ -183,11 +183,11 @@ module _ (p : Plan) (b : Image) (s : Supervised) (o : Outcome) where
       record { labels = []; last = s; path = here; moves = rw none refl; holds = subst (λ (x : Image). Holds p x s) (sym same) h }
 
   -- a call that is one step
-  one-step : (i : ℕ) (l : Label) {s' : Supervised} → o .answer ≡ shown i l → SupervisedStep p (EngineStep p) i s l s' → Holds p (o .image) s' → Supervises p b s (o ∷ [])
-  unfolding leftBy shown doneIn committedMoves
+  one-step : (i : ℕ) (l : Label) {s' : Supervised} → o .answer ≡ triedAs i l → SupervisedStep p (EngineStep p) i s l s' → Holds p (o .image) s' → Supervises p b s (o ∷ [])
+  unfolding leftBy triedAs doneIn committedMoves
   one-step i l {s'} e t h = record { labels = l ∷ []; last = s'; path = further (i, t) here; moves = sym (seen l e); holds = h }
     where
-      seen : (l : Label) → o .answer ≡ shown i l → committedMoves (o ∷ []) ≡ doneIn (l ∷ [])
+      seen : (l : Label) → o .answer ≡ triedAs i l → committedMoves (o ∷ []) ≡ doneIn (l ∷ [])
       seen (did j) e = rw e refl
       seen ε e = rw e refl
 
@@ -237,28 +237,57 @@ module _ (p : Plan) (b : Image) (d : Disabler) (m : Marks p b d) (k : Known p b)
             };
       }
 
-  settle-path : {a : Answer} → Answers p (calling b settle) a → called p b settle .answer ≡ a → Supervises p b (supervised (configurationOf b) d) (called p b settle ∷ [])
-  unfolding shown bytesAfter
-  settle-path (refuses-with n x) e = absurd (f (ap (λ (a : Answer). a .kind) e))
-  settle-path (commits-lowest i l) e =
+  commit-step : (i : ℕ) → called p b settle .answer ≡ committed i
+      → (s' : Supervised) × SupervisedStep p (EngineStep p) i (supervised (configurationOf b) d) (did i) s' × Holds p (called p b settle .image) s'
+  unfolding bytesAfter
+  commit-step i e =
       let c : Configuration = configurationOf b in
       let s : LowestSafe p c i = settled-exactly p b i .0 e .1 in
+      let l = s .number< in
       let q = eligible-from p (c .state) i (s .is-enabled) (s .not-outranked) in
-      let on = bool-cases (d .enab i) (λ t. t) (λ t. absurd-bool (s .ends-good) (k .marked i l (m i l ∙ ap not t) .ends-bad)) in
-      one-step p b (supervised c d) (called p b settle) i (did i) e
-      (step-from p (k .plan) i (k .sound) (record { number< = l; is-eligible = q; is-enabled = on }) (leads-on (s .ends-good)))
-      (subst (λ (x : Image). Holds p x (supervised (after p c i) (allFrom i))) (sym (leaves p b settle e)) (held-on p b d m k i l (s .is-enabled)))
+      let on = bool-cases (d .enab i) (λ t. t) (λ t. absurd-bool (s .ends-good) (k .marked i l (m i l ∙ ap not t) .ends-bad)) in (
+        supervised (after p c i) (allFrom i),
+        step-from p (k .plan) i (k .sound) (record { number< = l; is-eligible = q; not-disabled = on }) (leads-on (s .ends-good)),
+        subst (λ (x : Image). Holds p x (supervised (after p c i) (allFrom i))) (sym (leaves p b settle e)) (held-on p b d m k i l (s .is-enabled)),
+      )
+
+  settle-path : {a : Answer} → Answers p (calling b settle) a → called p b settle .answer ≡ a → Supervises p b (supervised (configurationOf b) d) (called p b settle ∷ [])
+  unfolding triedAs bytesAfter
+  settle-path (refuses-with n x) e = absurd (f (ap (λ (a : Answer). a .kind) e))
+  settle-path (commits-lowest i l) e =
+      let (s', t, h) = commit-step i e in one-step p b (supervised (configurationOf b) d) (called p b settle) i (did i) e t h
   settle-path stalls e =
       quiet p b (supervised (configurationOf b) d) (called p b settle) (record { configuration = refl; marks = m }) (leaves p b settle e)
       (ap (λ (a : Answer). commits a) e)
   settle-path pens e = pens-path e
 
--- a settling too: one step for a commit, and where it is penned one recovered step for each interaction that it newly marks
+module _ (p : Plan) (b : Image) where
+  settle-known : ¬ Refused (called p b settle .answer) → Known p b
+  unfolding callRules
+  settle-known f = known p b (unrefused-exactly p (calling b settle) .0 f)
+
+  -- a settling that commits is one continued step
+  pub settle-step : (i : ℕ) → called p b settle .answer ≡ committed i → (s : Supervised) → Holds p b s
+      → (s' : Supervised) × SupervisedStep p (EngineStep p) i s (did i) s' × Holds p (called p b settle .image) s'
+  settle-step i e =
+      let f : ¬ Refused (called p b settle .answer) = same-not-refused e (eqb-false 1 5 refl) in
+      by-held p b _ (λ d m. commit-step p b d m (settle-known f) f i e)
+
+  -- 002 remark 6, deadlock: after penned no interaction is possible
+  pub penned-deadlock : called p b settle .answer ≡ penned → (s : Supervised) → Holds p (called p b settle .image) s
+      → (i : ℕ) (l : Label) (s' : Supervised) → SupervisedStep p (EngineStep p) i s l s' → ⊥
+  penned-deadlock e s h i l s' t =
+      let f : ¬ Refused (called p b settle .answer) = same-not-refused e (eqb-false 4 5 refl) in
+      let k : Known p b = settle-known f in
+      let same : configurationOf b ≡ s .configuration = sym (settle-is p b f .restores-whole (inr e)) ∙ h .configuration in
+      let (a, _) = step-means p (k .plan) i (subst (Sound p) same (k .sound)) t in
+      let q : eligible p (configurationOf b .state) i ≡ true = subst (λ (c : Configuration). eligible p (c .state) i ≡ true) (sym same) (a .is-eligible) in
+      let marked = penned-bytes p b e .marks i .1 (a .number<, eligible-enabled p (configurationOf b .state) i q, eligible-top p (configurationOf b .state) i q) in
+      absurd-bool marked (h .marks i (a .number<) ∙ ap not (a .not-disabled))
+
+-- any settling is a path: where it is penned, of one recovered step for each interaction that it newly marks
 pub settle-supervised : (p : Plan) (b : Image) → ¬ Refused (called p b settle .answer) → (s : Supervised) → Holds p b s → Supervises p b s (called p b settle ∷ [])
-unfolding callRules
-settle-supervised p b f =
-    by-held p b _
-    (λ d m. settle-path p b d m (known p b (unrefused-exactly p (calling b settle) .0 f)) f (every-answer p (calling b settle)) refl)
+settle-supervised p b f = by-held p b _ (λ d m. settle-path p b d m (settle-known p b f) f (every-answer p (calling b settle)) refl)
 
 -- any calls on any image are a path of the supervised system
 pub calls-supervised : (p : Plan) (b : Image) (s : Supervised) → Holds p b s → (cs : List Call) → Supervises p b s (calledAll p b cs)

@@ -1,4 +1,4 @@
--- Every system: it simulates its composition with the monitor (002 proposition 3), and the traces of the composition keep in the property and are the
+-- Every system: it simulates its composition with the monitor (002 proposition 3), and the traces of the composition stay in the property and are the
 -- system's (corollary 1).
 use mathlib.Core.Path.{_≡_, refl, sym, ap, _∙_, subst}
 use mathlib.Core.Logic.{_⊎_, inl, inr}
@@ -80,7 +80,7 @@ module _ {p : Plan} {system : System} where
       none es ended = here
   followed (onward m r) w = followed-step (m .1) w (λ v. followed r v)
 
--- 002 corollary 1: along any trace of the composition from a good judged beginning the events keep in Π, and the stutter-free trace is one of the
+-- 002 corollary 1: along any trace of the composition from a good judged beginning the events stay in Π, and the stutter-free trace is one of the
 -- system
 pub enforced : (p : Plan) (system : System) (c : Configuration) (begins : Begins p c) → Allows p (c .oracle) → (σ : List (Label × Configuration))
     → Trace (MonitoredStep p system) c σ → Enforced p system c (begins .first-event) σ

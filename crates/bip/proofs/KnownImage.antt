@@ -21,7 +21,7 @@ use Rattle.semantics.proofs.ImagesRead.{sound-read}
 use Rattle.semantics.proofs.ExactAnswers.{bytesAfter, bytes-after}
 use Rattle.bip.proofs.Components.{counted}
 
--- none of 1 to 14 applies
+-- what it knows
 pub record Known (p : Plan) (b : Image) : Type 0 where
   pub plan : planRefusal p ≡ 0
   pub long : length b ≡ imageLength

@@ -1,4 +1,4 @@
--- The runs of 01 are the runs of the ranked system, by 01's choice, whose events keep in the oracle's property (001 definition 12, 002 corollary 1).
+-- The runs of 01 are the runs of the ranked system, by 01's choice, whose events stay in the oracle's property (001 definition 12, 002 corollary 1).
 use mathlib.Core.Path.{_≡_, refl, sym, ap, _∙_, subst}
 use mathlib.Core.Logic.{_↔_}
 use Prim.Native.Nat.{ℕ, _<_}
@@ -51,7 +51,7 @@ module _ (p : Plan) (ok : planRefusal p ≡ 0) where
       let e = eligible-enabled p (c .state) i (commit-eligible p c i m) in
       onward (i, commit-exactly p ok c h i l (after p c i) .1 (m, refl)) (run-traced (after p c i) (sound-after p (accepted-plan p ok) c h i l e) is rest)
 
-  -- ---- a trace of the system that keeps in the property
+  -- ---- a trace of the system that stays in the property
 
   -- the move of a step is eligible, and the event of the state that it leads to takes the oracle where the engine's does
   record Same (c : Configuration) (i : ℕ) (e : Letter p) (t : State) : Type 0 where

@@ -1,18 +1,19 @@
 -- A lawful oracle table denotes a safety property, which is 1-step tolerant: 002 section 4, definition 11 and proposition 2.
-use mathlib.Core.Path.{_≡_, refl, sym, ap, subst}
+use mathlib.Core.Path.{_≡_, refl, sym, ap, _∙_, subst}
 use mathlib.Core.Logic.{_⊎_, inl, inr}
-use Prim.Native.Nat.{ℕ, zero, suc, _≤_}
+use Prim.Native.Nat.{ℕ, zero, suc, _+_, _≤_}
 use native.Mathlib.Nat.{le-refl}
 use native.Mathlib.Omega.{arith}
 use mathlib.Core.Bool.{true}
-use mathlib.Core.List.{List, [], _∷_, _++_, cons-ne-nil}
+use mathlib.Core.List.{List, [], _∷_, _++_}
+use lib.ListN.{length, length-append}
 use lib.Dec.{eqb}
 use Rattle.semantics.specs.Bytes.{implies}
 use Rattle.semantics.specs.Plan.{Plan, oracleStates, firstOracle, letters, verdict}
 use Rattle.semantics.specs.Rules.{verdictOk, followerOk, oracleOk, planRefusal}
 use Rattle.semantics.specs.Move.{oracleInRange}
 use Rattle.bip.specs.Steps.{Path, here, further}
-use Rattle.bip.specs.Property.{Property, false-for-good, currently-false, true-for-good, Evaluates, always, so-far, not-yet, never, Safety, Tolerant}
+use Rattle.bip.specs.Property.{Property, false-for-good, currently-false, currently-true, true-for-good, Evaluates, always, so-far, not-yet, never, Safety, Tolerant}
 use Rattle.bip.specs.Monitor.{Letter, Reads, reads, Allows, Forbids, Denotes}
 use Rattle.semantics.proofs.Basics.{each, every-at, implies-at, not-yes, ltb-true, leb-true, eqb-true, eq-eqb, eqb-false}
 use Rattle.semantics.proofs.AcceptedPlan.{accepted-plan, counts-of}
@@ -29,17 +30,36 @@ pub safety-tolerant : {E : Type 0} (Π : Property E) → Safety Π → Tolerant 
 safety-tolerant Π safe [] σ' now-true deviates = le-refl 1
 safety-tolerant Π safe (a ∷ σ) σ' now-true deviates = absurd (never-currently-false Π safe (σ' ++ (a ∷ [])) (deviates a [] σ refl))
 
--- 002 proposition 2 prints an equality. The other inclusion does not follow from definition 11: the property of all non-empty sequences is 1-step
--- tolerant, for no sequence is currently true of it,
-abbrev pub NonEmpty : (E : Type 0) → Property E
-NonEmpty E σ = (a : E) × (σ' : List E) × (σ ≡ a ∷ σ')
+-- 002 proposition 2 prints an equality. The other inclusion does not follow from definition 11 as printed: "exactly one event" is 1-step tolerant,
+abbrev pub OneEvent : (E : Type 0) → Property E
+OneEvent E σ = length σ ≡ 1
 
-pub non-empty-tolerant : (E : Type 0) → Tolerant 1 (NonEmpty E)
-non-empty-tolerant E σ σ' (so-far (a, rest, e) later out) deviates = absurd (out (a, rest ++ later, ap (_++ later) e))
+longer : {E : Type 0} (σ later : List E) (a : E) → length σ ≡ 1 → length ((σ ++ (a ∷ [])) ++ later) ≡ 1 → ⊥
+longer σ later a e q =
+    let sum : length ((σ ++ (a ∷ [])) ++ later) ≡ length σ + 1 + length later
+    = length-append (σ ++ (a ∷ [])) later ∙ ap (λ (n : ℕ). n + length later) (length-append σ (a ∷ [])) in
+    past (length later) (sym (sum ∙ ap (λ (n : ℕ). n + 1 + length later) e) ∙ q)
+  where
+    past : (n : ℕ) → 1 + 1 + n ≡ 1 → ⊥
+    past n h = omega arith
+
+pub one-event-tolerant : (E : Type 0) → Tolerant 1 (OneEvent E)
+one-event-tolerant E [] σ' now-true deviates = le-refl 1
+one-event-tolerant E (a ∷ σ) σ' (so-far now later out) deviates = absurd (deviation (deviates a [] σ refl))
+  where
+    deviation : Evaluates (OneEvent E) (σ' ++ (a ∷ [])) currently-false → ⊥
+    deviation (not-yet not-now later in-later) = longer σ' later a now in-later
+
+-- not for want of a sequence that is currently true,
+pub one-event-true : {E : Type 0} (a : E) → Evaluates (OneEvent E) (a ∷ []) currently-true
+one-event-true a = so-far refl (a ∷ []) (longer (a ∷ []) [] a refl)
 
 -- and it is no safety property, where there is an event.
-pub non-empty-not-safety : {E : Type 0} → E → Safety (NonEmpty E) → ⊥
-non-empty-not-safety a safe = let (b, σ, e) = safe [] (a ∷ []) (a, [], refl) in cons-ne-nil _ _ (sym e)
+pub one-event-not-safety : {E : Type 0} → E → Safety (OneEvent E) → ⊥
+one-event-not-safety a safe = none (safe [] (a ∷ []) refl)
+  where
+    none : _≡_ {A = ℕ} 0 1 → ⊥
+    none h = omega arith
 
 -- ---- paths
 

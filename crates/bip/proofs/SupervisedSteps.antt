@@ -41,11 +41,11 @@ pub data Leads (p : Plan) (s : Supervised) (i : ℕ) : Label → Supervised → 
   leads-on : good p (after p (s .configuration) i) ≡ true → Leads p s i (did i) (supervised (after p (s .configuration) i) (allFrom i))
   leads-back : good p (after p (s .configuration) i) ≡ false → Leads p s i ε (supervised (s .configuration) (without (s .disabler) i))
 
--- a step of i is possible: it is eligible, and the disabler has it enabled
+-- a step of i is possible: it is eligible, and the disabler does not keep it disabled
 pub record Possible (p : Plan) (s : Supervised) (i : ℕ) : Type 0 where
   pub number< : i < interactions p
   pub is-eligible : eligible p (s .configuration .state) i ≡ true
-  pub is-enabled : s .disabler .enab i ≡ true
+  pub not-disabled : s .disabler .enab i ≡ true
 
 pub leads-somewhere : (p : Plan) (s : Supervised) (i : ℕ) → (l : Label) × (s' : Supervised) × Leads p s i l s'
 leads-somewhere p s i =
@@ -58,13 +58,13 @@ module _ (p : Plan) (ok : planRefusal p ≡ 0) where
   step-means i h (continued {c} {c'} {d} (receives e) m continues) =
       let n = monitored-low m in
       let (may, same) = commit-exactly p ok c h i n c' .0 m in (
-        record { number< = n; is-eligible = commit-eligible p c i may; is-enabled = e },
+        record { number< = n; is-eligible = commit-eligible p c i may; not-disabled = e },
         subst (λ (x : Configuration). Leads p (supervised c d) i (did i) (supervised x (allFrom i))) (sym same) (leads-on (commit-good p c i may)),
       )
   step-means i h (recovered {c} {c'} {d} (receives e) m recovers) =
       let n = monitored-low m in
       let (may, bad, same) = cancel-exactly p ok c h i n c' .0 m in (
-        record { number< = n; is-eligible = may; is-enabled = e },
+        record { number< = n; is-eligible = may; not-disabled = e },
         subst (λ (x : Configuration). Leads p (supervised c d) i ε (supervised x (without d i))) (sym same) (leads-back bad),
       )
 
@@ -72,10 +72,10 @@ module _ (p : Plan) (ok : planRefusal p ≡ 0) where
   pub step-from : (i : ℕ) {s s' : Supervised} {l : Label} → Sound p (s .configuration) → Possible p s i → Leads p s i l s' → SupervisedStep p (EngineStep p) i s l s'
   step-from i {s} h a (leads-on g) =
       let c = s .configuration in
-      continued (receives (a .is-enabled)) (commit-exactly p ok c h i (a .number<) (after p c i) .1 (commit-from p c i (a .is-eligible) g, refl)) continues
+      continued (receives (a .not-disabled)) (commit-exactly p ok c h i (a .number<) (after p c i) .1 (commit-from p c i (a .is-eligible) g, refl)) continues
   step-from i {s} h a (leads-back g) =
       let c = s .configuration in
-      recovered (receives (a .is-enabled)) (cancel-exactly p ok c h i (a .number<) c .1 (a .is-eligible, g, refl)) recovers
+      recovered (receives (a .not-disabled)) (cancel-exactly p ok c h i (a .number<) c .1 (a .is-eligible, g, refl)) recovers
 
   -- ---- a stuck configuration: every eligible interaction ends bad
 
@@ -110,7 +110,7 @@ module _ (p : Plan) (ok : planRefusal p ≡ 0) where
         record {
           labels = ε ∷ r .labels;
           last = r .last;
-          path = further (n, step-from n h (record { number< = l; is-eligible = q; is-enabled = on }) (leads-back bad)) (r .path);
+          path = further (n, step-from n h (record { number< = l; is-eligible = q; not-disabled = on }) (leads-back bad)) (r .path);
           silent = r .silent;
           disabled = λ j m e. below-suc m (λ k. r .disabled j k e) (λ k. r .still j (rw (eq-eqb j n k) refl));
           still = λ j e. r .still j (gone (eqb j n) e);
@@ -144,7 +144,6 @@ module _ (p : Plan) (ok : planRefusal p ≡ 0) where
 abbrev pub Marks : Plan → Image → Disabler → Type 0
 Marks p b d = (i : ℕ) → i < interactions p → bit (marksOf b) i ≡ not (d .enab i)
 
--- two lists of rules are kept exactly where each is
 -- the rules of a try before 19
 kept-before-19 : (p : Plan) (b : Image) (i : ℕ)
     → Kept (before 19 (callRules p b (try i))) ↔ Kept (planRules p ++ imageRules p b) × ((i < interactions p) × (eligible p (configurationOf b .state) i ≡ true))
@@ -174,12 +173,12 @@ module _ (p : Plan) (b : Image) (d : Disabler) (h : Marks p b d) (i : ℕ) where
         record {
           number< = l;
           is-eligible = eligible-from p (c .state) i on (not-yes _ top);
-          is-enabled = not-no (d .enab i) (sym (h i l) ∙ not-yes _ free);
+          not-disabled = not-no (d .enab i) (sym (h i l) ∙ not-yes _ free);
         }),
     (λ a.
         let on = eligible-enabled p (c .state) i (a .is-eligible) in
         let top = eligible-top p (c .state) i (a .is-eligible) in
-        (lt-ltb _ _ (a .number<), (on, (ap not top, (ap not (h i (a .number<) ∙ ap not (a .is-enabled)), tt))))),
+        (lt-ltb _ _ (a .number<), (on, (ap not top, (ap not (h i (a .number<) ∙ ap not (a .not-disabled)), tt))))),
   )
 
   pub try-exactly : Kept (callRules p b (try i)) ↔ Kept (planRules p ++ imageRules p b) × Possible p s i

@@ -1,5 +1,5 @@
 -- The calls are a trace of the composition (002 definition 16), on any plan and image. From an accepted start on, what they commit is a run of the ranked
--- system that keeps in the property (corollary 1), and nothing of such runs is lost.
+-- system that stays in the property (corollary 1), and nothing of such runs is lost.
 use mathlib.Core.Path.{_≡_, refl, sym, ap, _∙_, subst}
 use mathlib.Core.Logic.{inl, inr}
 use Prim.Native.Nat.{ℕ}
@@ -96,19 +96,19 @@ module _ (p : Plan) where
 -- ---- from an accepted start on
 
 module _ (p : Plan) (b : Image) (s : Starts p b) where
-  start-holds : configurationOf (start p b .image) ≡ initial p
-  start-holds = ap (λ (o : Outcome). configurationOf (o .image)) (start-is p b s) ∙ held-lane p (start-plan p b s) blank (blank-lawful p b s) ∙ unfold lane replay in refl
+  start-configuration : configurationOf (start p b .image) ≡ initial p
+  start-configuration = ap (λ (o : Outcome). configurationOf (o .image)) (start-is p b s) ∙ held-lane p (start-plan p b s) blank (blank-lawful p b s) ∙ unfold lane replay in refl
 
   -- 000 section 5.5, remark 2: an accepted start is a judged beginning
   pub start-begins : Begins p (configurationOf (start p b .image))
-  start-begins = subst (Begins p) (sym start-holds) (initial-begins p (start-plan p b s))
+  start-begins = subst (Begins p) (sym start-configuration) (initial-begins p (start-plan p b s))
 
   start-allows : Allows p (configurationOf (start p b .image) .oracle)
   start-allows =
-      subst (λ (c : Configuration). Allows p (c .oracle)) (sym start-holds)
+      subst (λ (c : Configuration). Allows p (c .oracle)) (sym start-configuration)
       (good-allows p (start-plan p b s) (initial p) (sound-initial p (accepted-plan p (start-plan p b s)) .in-range) .0 (start-good p b s))
 
-  -- 002 corollary 1 for this engine: the moves that any calls commit are a run of the ranked system that keeps in Π, to the state that the image holds
+  -- 002 corollary 1 for this engine: the moves that any calls commit are a run of the ranked system that stays in Π, to the state that the image holds
   pub committed-trace : (cs : List Call)
       → EngineRun p (committedMoves (calledAll p (start p b .image) cs)) (configurationOf (leftBy (start p b .image) (calledAll p (start p b .image) cs)) .state)
   committed-trace cs =
@@ -146,6 +146,16 @@ module _ (p : Plan) (b : Image) (s : Starts p b) where
         steps = rw (← a .run .through, ← a .run .ends) (ranked-path (a .run .steps));
       }
 
-  -- and nothing is lost: every such run is committed by its tries
-  pub nothing-lost : (is : List ℕ) (q : State) → EngineRun p is q → Committed p is (start p b .image) (calledAll p (start p b .image) (map try is))
-  nothing-lost is q r = runs-by-tries p b s is (run-exactly p (start-plan p b s) (start-good p b s) is q .0 r .0)
+  committed-by-tries : (is : List ℕ) (q : State) → EngineRun p is q → Committed p is (start p b .image) (calledAll p (start p b .image) (map try is))
+  committed-by-tries is q r = runs-by-tries p b s is (run-exactly p (start-plan p b s) (start-good p b s) is q .0 r .0)
+
+  -- and nothing is lost: every such run is committed by its tries, which leave an image of its last state
+  pub nothing-lost : (is : List ℕ) (q : State) → EngineRun p is q
+      → Committed p is (start p b .image) (calledAll p (start p b .image) (map try is))
+      × (configurationOf (leftBy (start p b .image) (calledAll p (start p b .image) (map try is))) .state ≡ q)
+  nothing-lost is q r =
+      let c = committed-by-tries is q r in
+      let last : State = configurationOf (leftBy (start p b .image) (calledAll p (start p b .image) (map try is))) .state in
+      let a : EngineRun p is last = subst (λ (js : List ℕ). EngineRun p js last) (c .moves) (committed-trace (map try is)) in
+      let (_, ends) = run-exactly p (start-plan p b s) (start-good p b s) is last .0 a in
+      (c, ends ∙ sym (run-exactly p (start-plan p b s) (start-good p b s) is q .0 r .1))

@@ -1,5 +1,5 @@
--- The disabler and the system supervised by monitor and disabler, as 002 prints them in section 6.6 (definitions 22 and 23). They cite the monitor's
--- composition (definition 16) and nothing of the engine's meaning.
+-- The disabler (002 section 6.6, definition 22), and the system supervised by monitor and disabler (definition 23). They cite the monitor's composition
+-- (definition 16), and of the engine's meaning the record of a configuration alone.
 use mathlib.Core.Path.{_≡_}
 use Prim.Native.Nat.{ℕ}
 use mathlib.Core.Bool.{Bool, true, false, cond}
@@ -38,9 +38,10 @@ pub record Supervised : Type 0 where
 abbrev pub supervised : Configuration → Disabler → Supervised
 supervised c d = record { configuration = c; disabler = d }
 
--- Definition 23, for the interaction i: it is done together with its port of the disabler; then a commit takes the disabler's continue port (γ^c2), a
--- cancel its recovery port (γ^r2). 01 ranks before it disables: `system` is ranked, and a disabled interaction still outranks (002's remark 7 has it
--- otherwise).
+-- Definition 23 for the interaction i, as one step: 002 prints connectors and priorities that let nothing come between. The interaction is done together with
+-- its port of the disabler; then a commit takes the disabler's continue port (γ^c2), a cancel its recovery port (γ^r2). 01 ranks before it disables:
+-- `system` is ranked, and a disabled interaction still outranks. 002 disables before it ranks (remark 7), and names as the other way to disable all that lie
+-- below a disabled one too: what 01 answers by 18.
 pub data SupervisedStep (p : Plan) (system : System) (i : ℕ) : Supervised → Label → Supervised → Type 0 where
   continued : {c c' : Configuration} {d d₁ d₂ : Disabler} → Disables d (interaction i) d₁ → Monitored p system i c (did i) c' → Disables d₁ continue d₂
       → SupervisedStep p system i (supervised c d) (did i) (supervised c' d₂)

@@ -1,5 +1,6 @@
--- The oracle, the enforcement monitor and its composition with a system, as 002 prints them in section 5.2 (definitions 14 to 16). They cite the
--- fields of a plan and the evaluator of code, and nothing else of the engine's meaning.
+-- Events (000 section 4.3); the oracle, the enforcement monitor and its composition with a system (002 section 5.2, definitions 14 to 16); beginnings, traces,
+-- runs, and what proposition 3 and corollary 1 say. Of the engine's meaning they cite the fields of a plan, the evaluator of code and the record of a
+-- configuration alone.
 use mathlib.Core.Path.{_≡_}
 use mathlib.Core.Logic.{_⊎_}
 use Prim.Native.Nat.{ℕ, _<_}
@@ -41,7 +42,7 @@ Denotes p σ = (θ : ℕ) × Path (Reads p) (firstOracle p) σ θ × Allows p θ
 
 -- ---- the enforcement monitor: 002 definition 15
 
--- Θ and its fresh copies: θ, θ_c and θ_e.
+-- Θ and its fresh copies: θ, θ_c and θ_e. 002 prints θ_c without its event; here there is one for each, so that a commit leads where that event does.
 pub data MonitorState (p : Plan) : Type 0 where
   stable : ℕ → MonitorState p
   committing : ℕ → Letter p → MonitorState p
@@ -82,8 +83,8 @@ abbrev pub System : Type 1
 System = State → ℕ → State → Type 0
 
 -- The composition of a system with the monitor, for the interaction i that the system performs. Rule 2 commits; rule 3 cancels, with state and
--- monitor as they were. Rule 1 is for a step of which the instrumentation makes no event; it has no instance here, since 01 decides that an event is read
--- after every move.
+-- monitor as they were. Rule 1, for a step of which the instrumentation makes no event (002 section 4.2), is left out: 01 has an event read after every
+-- move.
 pub data Monitored (p : Plan) (system : System) (i : ℕ) : Configuration → Label → Configuration → Type 0 where
   rule-2 : {q q' : State} {θ θ' : ℕ} {e : Letter p} → system q i q' → Satisfies p q' e → Enforces p (stable θ) (event e) (committing θ e)
       → Enforces p (committing θ e) commit (stable θ') → Monitored p system i (pair q θ) (did i) (pair q' θ')
@@ -128,14 +129,14 @@ interactionsOf {S} σ = map (λ (m : ℕ × S). m .0) σ
 pub record Enforced (p : Plan) (system : System) (c : Configuration) (first : Letter p) (σ : List (Label × Configuration)) : Type 0 where
   -- σ has its events,
   pub events : (es : List (Letter p)) × Shows p (stutter-free (erased σ)) es
-  -- inst(σ) ∈ Π,
+  -- inst(σ) ∈ Π, the starting event first (01; 002 begins with the first move's),
   pub in-property : (es : List (Letter p)) → Shows p (stutter-free (erased σ)) es → Denotes p (first ∷ es)
   -- stutter-free(σ↓) ∈ traces(L),
   pub of-system : Trace system (c .state) (stutter-free (erased σ))
   -- and it ends where σ does.
   pub ends : endOf (c .state) (stutter-free (erased σ)) ≡ endOf c σ .state
 
--- A run of the system through the interactions is, from q to q', whose events behind the first one keep in the property (001 definition 12, 002
+-- A run of the system through the interactions is, from q to q', whose events, with the first before them, are in the property (001 definition 12, 002
 -- corollary 1).
 pub record AllowedRun (p : Plan) (system : System) (q : State) (first : Letter p) (is : List ℕ) (q' : State) : Type 0 where
   pub trace : List (ℕ × State)
@@ -146,7 +147,7 @@ pub record AllowedRun (p : Plan) (system : System) (q : State) (first : Letter p
   pub shows : Shows p trace events
   pub in-property : Denotes p (first ∷ events)
 
--- A run of the ranked system by 01's choice, from a judged beginning to the state q', that keeps in the oracle's property.
+-- A run of the ranked system by 01's choice, from a judged beginning to the state q', that stays in the oracle's property.
 pub record EngineRun (p : Plan) (is : List ℕ) (q' : State) : Type 0 where
   pub first : Configuration
   pub begins : Begins p first

@@ -1,16 +1,17 @@
 -- BIP's steps as the papers print them: of an atomic component (001 and 002, definition 3), of a composite one (definition 7), under priorities
--- (definition 8), and runs (001, definition 12). They cite the fields of a plan and the evaluator of code, and nothing else of the engine's meaning.
+-- (definition 8), and runs (001, definition 12). Of the engine's meaning they cite the fields of a plan and the evaluator of code alone.
 use mathlib.Core.Path.{_≡_}
 use mathlib.Core.Logic.{_⊎_}
 use Prim.Native.Nat.{ℕ, _≤_, _<_}
-use mathlib.Core.Bool.{Bool, true, false, cond}
+use mathlib.Core.Bool.{Bool, true, false, cond, _&&_}
+use lib.Dec.{ltb, eqb}
 use mathlib.Core.List.{List, [], _∷_}
 use lib.ListN.{length, getD}
 use lib.IntN.{ℤ, pos}
 use Rattle.semantics.specs.Bytes.{table}
 use Rattle.semantics.specs.Signed.{wrap}
-use Rattle.semantics.specs.Plan.{Plan, maxComponents, maxVariables, noPort, components, variables, transitions, interactions, locations, ports, startLocation, startValue, componentOf, source, portOf, destination, guardOf, actionOf, portIn, takesPart, interactionGuard, transferOf, below}
-use Rattle.semantics.specs.Code.{State, valued, guardHolds, acted, ownedBy, sharedIn}
+use Rattle.semantics.specs.Plan.{Plan, maxComponents, maxVariables, noPort, components, variables, transitions, interactions, locations, ports, startLocation, owner, startValue, componentOf, source, portOf, destination, guardOf, actionOf, portIn, takesPart, interactionGuard, transferOf, below}
+use Rattle.semantics.specs.Code.{State, valued, guardHolds, acted}
 
 -- ---- atomic components: 001 and 002, definitions 2 and 3
 
@@ -25,9 +26,13 @@ pub record Local : Type 0 where
 unfoldable pub restrictedTo : (ℕ → Bool) → List ℤ → List ℤ
 restrictedTo names v = table maxVariables (λ x. cond (names x) (getD v x (pos 0)) (pos 0))
 
+-- Definition 2, X of component c: the variables that it owns.
+unfoldable pub variableOf : Plan → ℕ → ℕ → Bool
+variableOf p c v = ltb v (variables p) && eqb (owner p v) c
+
 -- The valuation v restricted to the variables of component c.
 abbrev pub restricted : Plan → ℕ → List ℤ → List ℤ
-restricted p c v = restrictedTo (ownedBy p c) v
+restricted p c v = restrictedTo (variableOf p c) v
 
 -- Definition 3, the condition on the transition: there is τ = ⟨l, port, l'⟩ of component c with g_τ(v).
 pub record Able (p : Plan) (c port t : ℕ) (q : Local) : Type 0 where
@@ -67,10 +72,13 @@ pub record Q (p : Plan) (s : State) : Type 0 where
   pub no-port : (c : ℕ) → components p ≤ c → c < maxComponents → getD (s .lastPorts) c 0 ≡ noPort
   pub no-value : (v : ℕ) → variables p ≤ v → getD (s .values) v (pos 0) ≡ pos 0
 
--- v(X): the global valuation restricted to X, the variables of the components taking part in interaction i. It is all that the interaction's guard and
--- transfer are run on.
+-- X of interaction i: "the set of variables attached to the ports of a", all variables of the components taking part.
+unfoldable pub variableIn : Plan → ℕ → ℕ → Bool
+variableIn p i v = ltb v (variables p) && takesPart p i (owner p v)
+
+-- v(X): the global valuation restricted to X. It is all that the guard and the transfer of interaction i are run on.
 unfoldable pub attached : Plan → State → ℕ → State
-attached p q i = valued (restrictedTo (sharedIn p i) (q .values))
+attached p q i = valued (restrictedTo (variableIn p i) (q .values))
 
 -- v / v_i with v_i = F_{a_i}(v(X)): what component c, taking part, holds of the old valuation after the transfer of interaction i.
 unfoldable pub received : Plan → State → ℕ → ℕ → List ℤ

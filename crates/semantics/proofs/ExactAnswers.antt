@@ -21,6 +21,7 @@ use Rattle.semantics.proofs.Refusing.{none-refused, all-kept}
 use Rattle.semantics.proofs.RuleLists.{Kept, keeps, kept-number, among}
 use Rattle.semantics.proofs.AcceptedPlan.{mask-small}
 use Rattle.semantics.proofs.LawfulImage.{LawfulImage, lawful-image}
+use Rattle.semantics.proofs.PennedExactly.{Stuck, penned-exactly}
 use Rattle.semantics.proofs.Performed.{Performs, offering, committing, cancelling, settling, penning, stalling, performs, other-kind}
 use Rattle.semantics.proofs.RefusedUnchanged.{Refused, same-not-refused, accepted-not-refused, performed-not-refused, not-refused, called-performed, answers-exactly, own-exactly, kept-exactly, refused-is}
 use Rattle.semantics.proofs.RefusalConditions.{AnyCall, checking, starting, calling, answerTo, rulesOf, numbersOf, all-numbered, gives-own}
@@ -172,6 +173,14 @@ pub stalled-exactly : (p : Plan) (b : Image)
     → called p b settle .answer ≡ stalled ↔ Kept (callRules p b settle) × ((i : ℕ) → i < interactions p → enabled p (configurationOf b .state) i ≡ false)
 stalled-exactly p b = call-exactly p b settle stalled (eqb-false 3 5 refl) (settle-stalls p b (performs p b settle))
 
+-- Penned as PennedExactly has it, with the rules of the call.
+pub penned-kept-exactly : (p : Plan) (b : Image) → called p b settle .answer ≡ penned ↔ Kept (callRules p b settle) × Stuck p (configurationOf b)
+penned-kept-exactly p b = (
+  (λ e. let f : ¬ Refused (called p b settle .answer) = same-not-refused e (eqb-false 4 5 refl) in
+      (unrefused-exactly p (calling b settle) .0 f, penned-exactly p b f .0 e)),
+  (λ (h, s). penned-exactly p b (unrefused-exactly p (calling b settle) .1 h) .1 s),
+)
+
 -- ---- every answer is one of 01's list
 
 -- "Other answers are a kind .. and a number": the answers that each call can give.
@@ -212,7 +221,7 @@ every-answer p (calling b k) = unless-answer p (calling b k) b (performed p b k)
 
 -- ---- the bytes after each answer
 
--- What the image b is after an answer: the new state without marks after a commit, one more mark after a cancelled move, every enabled, unoutranked
+-- What the image b is after an answer of offered, try or settle: the new state without marks after a commit, one more mark after a cancelled move, every enabled, unoutranked
 -- interaction marked after penned; as it was after any other.
 unfoldable pub bytesAfter : Plan → Image → Answer → Image
 bytesAfter p b a =

@@ -1,4 +1,4 @@
--- What a call comes to that is not refused: its outcomes, and where each comes.
+-- The outcomes of a call that is not refused, and where each comes.
 use mathlib.Core.Path.{_≡_, ap}
 use Prim.Native.Nat.{ℕ, _<_}
 use mathlib.Core.Bool.{true, false}

@@ -52,7 +52,7 @@ imageNumbers = 11 ∷ 12 ∷ 13 ∷ 14 ∷ []
 abbrev pub clerkNumbers : List ℕ
 clerkNumbers = 16 ∷ 17 ∷ 18 ∷ 19 ∷ []
 
--- The numbers that a call can give: those of its rules.
+-- .. and those of each call.
 abbrev pub numbersOf : AnyCall → List ℕ
 numbersOf checking = planNumbers
 numbersOf (starting b) = planNumbers ++ startNumbers

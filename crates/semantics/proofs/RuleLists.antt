@@ -52,6 +52,7 @@ kept-number n (r ∷ rs) (k, h) = bool-cases (eqb (r .number) n) (λ e. rw e k) 
 pub rule-kept : (rs : List Rule) → numbered rs ≡ true → refusal rs ≡ 0 → (n : ℕ) → keeps n rs ≡ true
 rule-kept rs h e n = kept-number n rs (none-refused rs h e)
 
+-- Two lists of rules are kept exactly where each is.
 pub kept-append : (rs qs : List Rule) → Kept (rs ++ qs) ↔ Kept rs × Kept qs
 kept-append [] qs = (λ h. (tt, h), λ (_, h). h)
 kept-append (r ∷ rs) qs =

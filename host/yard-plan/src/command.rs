@@ -4,12 +4,25 @@ use std::ffi::OsString;
 use std::path::Path;
 
 use crate::read::{self, Meant};
-use crate::{faults, image, report, show};
+use crate::{faults, image, report, show, start};
 
 /// Status where a file cannot be read, the usage is wrong, or the output cannot be written.
 pub const FAILED: u8 = 2;
 
-const USAGE: &str = "usage: yard-plan show FILE | check FILE | image PLAN IMAGE";
+const USAGE: &str = "usage: yard-plan show FILE | check FILE | image PLAN IMAGE | --help";
+
+const HELP: &str = "\
+usage: yard-plan COMMAND, where COMMAND is one of
+  show FILE         prints a plan's tables, code as expressions
+  check FILE        says whether a plan is accepted; if not, every fault with its record, byte, rule and cure
+  image PLAN IMAGE  shows a lane: locations, last ports, values, marks, what is on offer; if it is refused, every fault with its byte and cure
+  --help, -h        prints this
+status
+  0  accepted
+  1  refused
+  2  a file cannot be read, the usage is wrong, or the output cannot be written
+  3  the library and the explanation differ: the library's answer counts
+";
 
 /// What a command leaves: standard output, standard error and the status.
 pub struct Done {
@@ -27,10 +40,15 @@ pub fn run(arguments: &[OsString]) -> Done {
         },
         Err(line) => Done {
             output: String::new(),
-            errors: line + "\n",
+            errors: error(&line),
             status: FAILED,
         },
     }
+}
+
+/// A line for standard error.
+pub fn error(line: &str) -> String {
+    format!("yard-plan: {line}\n")
 }
 
 /// The output and the status, or the line for standard error.
@@ -38,6 +56,7 @@ fn answer(arguments: &[OsString]) -> Result<(String, u8), String> {
     let file = |path: &OsString, meant: Meant| read::file(Path::new(path), meant);
     let command = arguments.first().and_then(|command| command.to_str());
     match (command, arguments) {
+        _ if arguments.iter().any(|a| a == "--help" || a == "-h") => Ok((HELP.to_string(), 0)),
         (Some("show"), [_, plan]) => Ok(show::plan(&file(plan, Meant::Plan)?)),
         (Some("check"), [_, plan]) => Ok(check(&file(plan, Meant::Plan)?)),
         (Some("image"), [_, plan, image]) => Ok(image::show(
@@ -48,8 +67,13 @@ fn answer(arguments: &[OsString]) -> Result<(String, u8), String> {
     }
 }
 
-/// Whether the library accepts the plan, and every fault that explains why not.
+/// Whether the library accepts the plan, and every fault that explains why not; of an accepted plan, whether a lane can be started.
 pub fn check(plan: &[u8]) -> (String, u8) {
     let number = report::number(yard::check(plan));
-    report::explained(number, &faults::of_plan(plan))
+    let (output, status) = report::explained(number, &faults::of_plan(plan));
+    if status != report::ACCEPTED {
+        return (output, status);
+    }
+    let (lines, status) = start::told(plan);
+    (output + &lines, status)
 }

@@ -1,5 +1,5 @@
 //! A plan's records, and for each field that breaks its own rule the value by which the rest is judged.
-//! So one wrong field is one fault, and what its cure writes is what the rest was judged by.
+//! So one wrong field is one fault, and what its mend writes is what the rest was judged by.
 
 use crate::tables::{Interaction, Span, State, Tables, Transition};
 use crate::words::Word;

@@ -12,6 +12,7 @@ pub mod mend;
 pub mod read;
 pub mod report;
 pub mod show;
+pub mod start;
 pub mod tables;
 pub mod text;
 pub mod words;

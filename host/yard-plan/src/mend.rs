@@ -1,4 +1,4 @@
-//! A cure as a change of bytes.
+//! A change of bytes that rids a file of a fault.
 
 #[derive(Clone, Debug, PartialEq, Eq)]
 pub enum Mend {

@@ -10,9 +10,6 @@ pub const REFUSED: u8 = 1;
 /// The library's number is not the one that the analysis finds.
 pub const DIFFERENT: u8 = 3;
 
-/// Further faults that are listed.
-const MOST_FURTHER: usize = 100;
-
 /// The refusal's number of an answer; 0 for accepted.
 pub fn number(answer: yard::Answer) -> u32 {
     match answer.kind {
@@ -31,10 +28,6 @@ pub fn verdict(number: u32, analysed: u32) -> (String, u8) {
         let status = if number == 0 { ACCEPTED } else { REFUSED };
         return (output, status);
     }
-    let says = |number: u32| match number {
-        0 => "accepts".to_string(),
-        _ => format!("refuses with {number}"),
-    };
     let (library, analysis) = (says(number), says(analysed));
     let _ = writeln!(
         output,
@@ -43,26 +36,37 @@ pub fn verdict(number: u32, analysed: u32) -> (String, u8) {
     (output, DIFFERENT)
 }
 
+/// What an answer does, by its refusal's number.
+pub fn says(number: u32) -> String {
+    match number {
+        0 => "accepts".to_string(),
+        _ => format!("refuses with {number}"),
+    }
+}
+
 /// Answer, first fault and further faults.
 pub fn explained(number: u32, analysis: &Analysis) -> (String, u8) {
-    let (mut output, status) = verdict(number, analysis.first_number());
+    let (output, status) = verdict(number, analysis.first_number());
+    (output + &listed(analysis), status)
+}
+
+/// The first fault and all further ones.
+pub fn listed(analysis: &Analysis) -> String {
+    let mut output = String::new();
     let Some((first, further)) = analysis.faults.split_first() else {
-        return (output, status);
+        return output;
     };
     output += &lines("", "", first);
     if !further.is_empty() {
         output += "further faults:\n";
     }
-    for fault in further.iter().take(MOST_FURTHER) {
+    for fault in further {
         output += &lines("  ", &format!("{}: ", fault.number), fault);
-    }
-    if further.len() > MOST_FURTHER {
-        let _ = writeln!(output, "  and {} more", further.len() - MOST_FURTHER);
     }
     if let Some(rest) = analysis.rest {
         let _ = writeln!(output, "{rest}");
     }
-    (output, status)
+    output
 }
 
 fn lines(indent: &str, number: &str, fault: &Fault) -> String {
@@ -113,12 +117,13 @@ mod tests {
     }
 
     #[test]
-    fn the_list_is_cut_off_after_a_hundred() {
-        let (output, status) = explained(1, &faulty(101));
-        assert!(!output.contains("more"));
-        assert_eq!(status, REFUSED);
-        let (output, _) = explained(1, &faulty(113));
-        assert!(output.ends_with("  and 12 more\n"));
-        assert_eq!(output.matches("  1: file, byte 0").count(), 100);
+    fn every_further_fault_is_listed() {
+        for count in [1, 2, 102, 5_000] {
+            let (output, status) = explained(1, &faulty(count));
+            assert_eq!(output.matches("\nfile, byte 0").count(), 1);
+            assert_eq!(output.matches("\n  1: file, byte 0").count(), count - 1);
+            assert_eq!(output.contains("\nfurther faults:\n"), count > 1);
+            assert_eq!(status, REFUSED);
+        }
     }
 }

@@ -6,6 +6,7 @@ use crate::faults::code::{Examiner, Role, Site};
 use crate::judged::{Judged, NO_PORT};
 use crate::layout::{field, number, COUNTS, FIRST, LENGTH, LETTERS, OFFSETS};
 use crate::report;
+use crate::start;
 use crate::tables::{Interaction, Tables};
 use crate::text::{bits, counted, list, verdict};
 
@@ -13,7 +14,12 @@ use crate::text::{bits, counted, list, verdict};
 pub fn plan(bytes: &[u8]) -> (String, u8) {
     let number = report::number(yard::check(bytes));
     let analysed = faults::of_plan(bytes).first_number();
-    let (mut output, status) = report::verdict(number, analysed);
+    let (mut output, mut status) = report::verdict(number, analysed);
+    if status == report::ACCEPTED {
+        let (lines, told) = start::told(bytes);
+        output += &lines;
+        status = told;
+    }
     output += &header(bytes);
     let told = !matches!(number, 1..=3);
     match Judged::read(bytes).filter(|_| told) {

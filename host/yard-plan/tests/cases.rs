@@ -6,7 +6,8 @@
 //!   plan AT BYTES        writes bytes, in hex, into the plan
 //!   plan length N        cuts the plan off or adds zeros
 //!   plan append BYTES    adds bytes behind
-//! and the same three with `image`, which is empty at first.
+//! and the same three with `image`, which is empty at first;
+//!   swap                 the image's bytes become the plan's, and the plan's the image's
 
 use std::collections::BTreeMap;
 use std::path::{Path, PathBuf};
@@ -46,6 +47,7 @@ impl Files {
             ["try", number] => {
                 yard::attempt(&self.plan, &mut self.image, number.parse().unwrap());
             }
+            ["swap"] => std::mem::swap(&mut self.plan, &mut self.image),
             ["plan", ref change @ ..] => edit(&mut self.plan, change),
             ["image", ref change @ ..] => edit(&mut self.image, change),
             _ => panic!("not understood: {line}"),

@@ -195,6 +195,61 @@ fn no_plan_and_no_image_makes_a_command_panic() {
     }
 }
 
+#[test]
+fn a_refused_start_is_told_of_an_accepted_plan() {
+    let mut rng = Rng::new(18);
+    let (mut started, mut refused, mut no_way) = (0, 0, 0);
+    for _ in 0..2_000 {
+        let plan = generate::plan(&mut rng).draft.bytes();
+        let number = report::number(yard::start(&plan, &mut [0; yard::IMAGE_BYTES]));
+        for (output, status) in [show::plan(&plan), command::check(&plan)] {
+            let told = output.starts_with("accepted\nbut a start is refused 15: ");
+            assert_eq!((told, status), (number == 15, 0), "{output}");
+            assert!(!output.contains("differ"), "{output}");
+        }
+        let (output, _) = command::check(&plan);
+        started += usize::from(number == 0 && output == "accepted\n");
+        no_way += usize::from(output.contains("  cure: another first oracle state"));
+        refused += usize::from(output.contains("  cure: other starting locations"));
+    }
+    println!("2000 plans: {started} started, {refused} bad at first, {no_way} bad whatever the starting state");
+    assert_eq!(started + refused + no_way, 2_000);
+    assert!(refused > 20 && no_way > 20);
+}
+
+/// With nothing on offer, marks tell the two apart: ranks have a highest move, which is on offer or marked where anything is enabled.
+#[test]
+fn nothing_on_offer_is_stalled_or_penned() {
+    let mut rng = Rng::new(19);
+    let (mut stalled, mut penned) = (0, 0);
+    for _ in 0..2_000 {
+        let lawful = generate::plan(&mut rng).draft;
+        let plan = lawful.bytes();
+        let Some(mut image) = lane(&mut rng, &plan, &lawful) else {
+            continue;
+        };
+        yard::settle(&plan, &mut image);
+        if yard::offered(&plan, &image).kind != yard::ACCEPTED {
+            continue;
+        }
+        let kept = image.clone();
+        let (output, _) = image::show(&plan, &image);
+        assert_eq!(image, kept);
+        let told = output.rsplit("\non offer\n").next().unwrap();
+        assert!(!told.contains("although"), "{told}");
+        let none = told.starts_with("  none: ");
+        assert_eq!(none, yard::offered_bits(&plan, &image) == 0);
+        let marked = image[16..24].iter().any(|&byte| byte != 0);
+        if none {
+            assert_eq!(told.contains("penned"), marked, "{output}");
+            assert_eq!(told.contains("stalled"), !marked, "{output}");
+            *(if marked { &mut penned } else { &mut stalled }) += 1;
+        }
+    }
+    println!("nothing on offer: {stalled} stalled, {penned} penned");
+    assert!(stalled > 50 && penned > 50);
+}
+
 /// The plan after the mends of its first faults in turn, and how many they were.
 fn mended(mut plan: Vec<u8>) -> (Vec<u8>, usize) {
     for steps in 0..1_000 {

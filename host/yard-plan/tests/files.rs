@@ -1,4 +1,4 @@
-//! Files that cannot be read, wrong usage, and output that cannot be written: a status and at most one line.
+//! Files that cannot be read, usage, and output that cannot be written: a status and at most one line of error.
 
 use std::ffi::OsStr;
 use std::fs::{self, File};
@@ -6,7 +6,9 @@ use std::io::Write;
 use std::path::{Path, PathBuf};
 use std::process::{Command, Output, Stdio};
 
-const USAGE: &str = "usage: yard-plan show FILE | check FILE | image PLAN IMAGE\n";
+const USAGE: &str =
+    "yard-plan: usage: yard-plan show FILE | check FILE | image PLAN IMAGE | --help\n";
+const UNWRITTEN: &str = "yard-plan: standard output cannot be written\n";
 
 fn program() -> Command {
     Command::new(env!("CARGO_BIN_EXE_yard-plan"))
@@ -38,7 +40,7 @@ fn assert_failed(done: &Output, line: &str) {
 
 /// Every command with the file as plan, and as image.
 fn assert_unreadable(path: &Path, reason: &str) {
-    let line = format!("{}: {reason}\n", path.display());
+    let line = format!("yard-plan: {}: {reason}\n", path.display());
     for command in ["show", "check"] {
         assert_failed(&run(&[command.as_ref(), path]), &line);
     }
@@ -138,19 +140,43 @@ fn a_file_without_permission() {
 
 #[test]
 fn wrong_usage() {
-    let wrong: [&[&str]; 9] = [
+    let wrong: [&[&str]; 11] = [
         &[],
         &["show"],
         &["check", "a", "b"],
         &["image", "a"],
         &["image", "a", "b", "c"],
         &["mend", "a"],
-        &["--help"],
+        &["help"],
+        &["--Help"],
+        &["-H", "a"],
         &["", ""],
         &["Check", "a"],
     ];
     for arguments in wrong {
         assert_failed(&run(arguments), USAGE);
+    }
+}
+
+#[test]
+fn help_names_every_command_and_status() {
+    let asked: [&[&str]; 4] = [
+        &["--help"],
+        &["-h"],
+        &["check", "--help"],
+        &["image", "a", "b", "-h"],
+    ];
+    for arguments in asked {
+        let done = run(arguments);
+        let output = String::from_utf8(done.stdout).unwrap();
+        let begins = |start: &str| output.lines().filter(|l| l.starts_with(start)).count();
+        for line in ["  show FILE ", "  check FILE ", "  image PLAN IMAGE "] {
+            assert_eq!(begins(line), 1, "{line}");
+        }
+        for status in ["  0  ", "  1  ", "  2  ", "  3  "] {
+            assert_eq!(begins(status), 1, "{status}");
+        }
+        assert_eq!((done.stderr, done.status.code()), (vec![], Some(0)));
     }
 }
 
@@ -162,22 +188,50 @@ fn arguments_that_are_no_text() {
     assert_failed(&run(&[odd, odd]), USAGE);
     assert_failed(
         &run(&[OsStr::new("check"), odd]),
-        "\u{fffd}\u{fffd}: there is no such file\n",
+        "yard-plan: \u{fffd}\u{fffd}: there is no such file\n",
     );
 }
 
+/// The program with this as its standard output.
+fn run_into(arguments: &[&OsStr], output: impl Into<Stdio>) -> Output {
+    let mut program = program();
+    program.args(arguments).stdout(output);
+    program.stderr(Stdio::piped()).output().unwrap()
+}
+
+/// A full device, and a descriptor that is open for reading alone.
 #[test]
-fn output_that_cannot_be_written_ends_quietly() {
+fn output_that_cannot_be_written_is_told() {
     let full = File::options().write(true).open("/dev/full").unwrap();
-    for command in ["check", "show"] {
-        let mut program = program();
-        program.arg(command).arg(sample());
-        let done = program
-            .stdout(full.try_clone().unwrap())
-            .stderr(Stdio::piped())
-            .output()
-            .unwrap();
-        assert_eq!((done.stderr, done.status.code()), (vec![], Some(2)));
+    let read_only = File::open("/dev/null").unwrap();
+    let sample = sample();
+    for output in [full, read_only] {
+        for command in ["check", "show", "--help"] {
+            let arguments = [command.as_ref(), sample.as_os_str()];
+            let done = run_into(&arguments, output.try_clone().unwrap());
+            assert_eq!(String::from_utf8_lossy(&done.stderr), UNWRITTEN);
+            assert_eq!(done.status.code(), Some(2));
+        }
+        let done = run_into(&["show".as_ref()], output);
+        assert_eq!(String::from_utf8_lossy(&done.stderr), USAGE);
+        assert_eq!(done.status.code(), Some(2));
+    }
+}
+
+/// Nobody reads it, which is the caller's own wish.
+#[test]
+fn output_into_the_null_device_is_written() {
+    let sample = sample();
+    for null in [
+        File::options().write(true).open("/dev/null").unwrap(),
+        File::options()
+            .read(true)
+            .write(true)
+            .open("/dev/null")
+            .unwrap(),
+    ] {
+        let done = run_into(&["show".as_ref(), sample.as_os_str()], null);
+        assert_eq!((done.stderr, done.status.code()), (vec![], Some(0)));
     }
 }
 
@@ -187,12 +241,6 @@ fn a_closed_pipe_ends_quietly() {
     let mut reader = Command::new("true").stdin(Stdio::piped()).spawn().unwrap();
     let pipe = reader.stdin.take().unwrap();
     reader.wait().unwrap();
-    let mut program = program();
-    program.arg("show").arg(plan);
-    let done = program
-        .stdout(pipe)
-        .stderr(Stdio::piped())
-        .output()
-        .unwrap();
+    let done = run_into(&["show".as_ref(), plan.as_os_str()], pipe);
     assert_eq!((done.stderr, done.status.code()), (vec![], Some(2)));
 }

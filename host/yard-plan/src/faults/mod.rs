@@ -25,7 +25,7 @@ pub struct Fault {
     /// The value found and the rule that it breaks.
     pub text: String,
     pub cure: String,
-    /// What the cure says, as a change of bytes; none where no such change would do.
+    /// A change of bytes after which the fault is gone; none where no such change would do. It is no advice, which is the cure's.
     pub mend: Option<Mend>,
 }
 

@@ -1,13 +1,13 @@
 //! 13: an oracle state out of range or bad, a location or last port out of range, or an unused entry filled.
 
-use super::places::{Image, COMPONENTS, LAST_PORTS, LOCATIONS, ORACLE, VALUES, VARIABLES};
+use super::places::{
+    Image, COMPONENTS, LAST_COPY, LAST_PORTS, LOCATIONS, ORACLE, VALUES, VARIABLES,
+};
 use crate::faults::Fault;
 use crate::judged::NO_PORT;
 use crate::mend::Mend;
 use crate::tables::Tables;
 use crate::text::{counted, verdict};
-
-const LAST_COPY: &str = "the image was damaged: take the last good copy";
 
 pub fn faults(tables: &Tables, image: &Image) -> Vec<Fault> {
     let components = tables.components.len();
@@ -64,7 +64,7 @@ fn last_port(tables: &Tables, image: &Image, c: usize) -> Option<Fault> {
     (found >= most && found != NO_PORT).then(|| {
         let has = counted(most.into(), "port");
         let text = format!("last port {found} of component {c}, but it has {has}");
-        let cure = format!("{LAST_COPY}; or 255 for none yet");
+        let cure = format!("{LAST_COPY}; or 255 here, for none yet");
         let place = LAST_PORTS + c;
         fault(place, text, cure, Some(Mend::byte(place, NO_PORT)))
     })
@@ -73,7 +73,12 @@ fn last_port(tables: &Tables, image: &Image, c: usize) -> Option<Fault> {
 /// An entry of a component or variable that the plan lacks.
 fn unused(place: usize, entry: String, found: i32, free: u8, mend: Mend) -> Fault {
     let text = format!("{entry}, which the plan lacks, is {found}, but unused ones are {free}");
-    fault(place, text, format!("{free} there"), Some(mend))
+    fault(
+        place,
+        text,
+        format!("{LAST_COPY}; or {free} here"),
+        Some(mend),
+    )
 }
 
 fn unused_location(image: &Image, c: usize) -> Option<Fault> {

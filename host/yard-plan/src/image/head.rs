@@ -1,14 +1,14 @@
 //! 11: the image is not 312 bytes. 12: bytes 0 to 7 or 9 to 15 do not match form 1 and the plan.
 
-use super::places::{Image, COUNTS, FORM, LETTERS, NUMBER, ZEROS};
+use super::places::{Image, COUNTS, FORM, LAST_COPY, LETTERS, NUMBER, ZEROS};
 use crate::faults::Fault;
 use crate::layout;
 use crate::mend::Mend;
+use crate::show;
 use crate::tables::Tables;
 use crate::text::{count, list};
 
 const OTHER_PLAN: &str = "the plan that the lane was started with, or a lane started anew";
-const DAMAGED: &str = "the image was damaged: take the last good copy";
 
 pub fn length(length: usize) -> Option<Fault> {
     let right = yard::IMAGE_BYTES;
@@ -49,17 +49,31 @@ pub fn same_plan(plan: &[u8], tables: &Tables, image: &Image) -> bool {
     counts.all(|same| same) && layout::number(plan) == Some(image.number())
 }
 
+/// What the image says of the plan that it belongs to, where that is all by which it is not of this one.
+pub fn own(plan: &[u8], tables: &Tables, image: &Image) -> String {
+    let damaged = !image.0.starts_with(LETTERS)
+        || image.0[FORM] != 1
+        || image.0[ZEROS].iter().any(|&byte| byte != 0);
+    if damaged || same_plan(plan, tables, image) {
+        return String::new();
+    }
+    let counts = counts(tables).into_iter().zip(&image.0[COUNTS..]);
+    let counts = counts.map(|((name, _), found)| format!("{name} {found}"));
+    let lines = vec![format!("plan number {}", image.number()), list(counts)];
+    show::section("the image is of a plan with", lines)
+}
+
 pub fn faults(plan: &[u8], tables: &Tables, image: &Image) -> Vec<Fault> {
     let mut faults = Vec::new();
     if !image.0.starts_with(LETTERS) {
         let found = image.0[..LETTERS.len()].escape_ascii();
         let text = format!("letters \"{found}\", but an image begins with YARD");
         let mend = Mend::Write(LETTERS.iter().copied().enumerate().collect());
-        faults.push(fault(0, text, DAMAGED, Some(mend)));
+        faults.push(fault(0, text, LAST_COPY, Some(mend)));
     }
     if image.0[FORM] != 1 {
         let text = format!("form {}, but there is form 1 alone", image.0[FORM]);
-        faults.push(fault(FORM, text, DAMAGED, Some(Mend::byte(FORM, 1))));
+        faults.push(fault(FORM, text, LAST_COPY, Some(Mend::byte(FORM, 1))));
     }
     for (n, (name, count)) in counts(tables).into_iter().enumerate() {
         let found = image.0[COUNTS + n];
@@ -72,7 +86,7 @@ pub fn faults(plan: &[u8], tables: &Tables, image: &Image) -> Vec<Fault> {
         let found = list(&image.0[ZEROS]);
         let text = format!("bytes 9 to 11 are {found}, but must be zero");
         let mend = Mend::Write(ZEROS.map(|at| (at, 0)).collect());
-        faults.push(fault(at, text, DAMAGED, Some(mend)));
+        faults.push(fault(at, text, LAST_COPY, Some(mend)));
     }
     let number = layout::number(plan).unwrap_or(0);
     if image.number() != number {

@@ -5,7 +5,7 @@ use reference::code;
 use reference::lane::{outranked, Lane};
 use reference::plan::{Plan, Transition};
 
-use super::places::{Image, MARKS};
+use super::places::{Image, LAST_COPY, MARKS};
 use crate::expression;
 use crate::faults::Fault;
 use crate::judged::NO_PORT;
@@ -22,7 +22,7 @@ fn fault(image: &Image, mark: usize, why: String) -> Fault {
         place,
         text: format!("mark on interaction {mark}, {why}"),
         cure: format!(
-            "take the last good copy, or start anew; or clear bit {} here: {cleared} instead of {}",
+            "{LAST_COPY}; or clear bit {} here: {cleared} instead of {}",
             mark % 8,
             image.0[place]
         ),

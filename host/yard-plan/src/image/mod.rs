@@ -3,7 +3,9 @@
 mod body;
 mod head;
 mod marks;
+mod offer;
 mod places;
+mod swapped;
 
 use crate::faults::{self, Analysis, Fault};
 use crate::report;
@@ -12,18 +14,26 @@ use crate::tables::Tables;
 use crate::text::{bits, last_port, verdict};
 
 use places::Image;
+use swapped::Swapped;
 
 /// The lane, or why the library refuses the plan or the image; then the lane as far as it can be told.
 pub fn show(plan: &[u8], image: &[u8]) -> (String, u8) {
     let number = report::number(yard::offered(plan, image));
     let analysis = analyse(plan, image);
-    let (mut output, status) = report::explained(number, &analysis);
-    // Past 12 the image is a lane of this plan.
-    if matches!(number, 0 | 13 | 14) {
-        if let (Some(tables), Some(read)) = (Tables::read(plan), Image::of(image)) {
-            let offered = (number == 0).then(|| yard::offered_bits(plan, image));
-            output += &lane(&tables, &read, offered);
-        }
+    let (mut output, status) = report::verdict(number, analysis.first_number());
+    let swapped = Swapped::of(plan, image);
+    output += swapped.map_or("", Swapped::question);
+    if !swapped.is_some_and(|swapped| swapped.explains(number)) {
+        output += &report::listed(&analysis);
+    }
+    if let (Some(tables), Some(read)) = (Tables::read(plan), Image::of(image)) {
+        output += &match number {
+            12 => head::own(plan, &tables, &read),
+            // Past 12 the image is a lane of this plan.
+            0 => lane(&tables, &read, offer::lines(plan, &tables, image)),
+            13 | 14 => lane(&tables, &read, offer::not_told()),
+            _ => String::new(),
+        };
     }
     (output, status)
 }
@@ -74,11 +84,7 @@ fn cured(bytes: &[u8], faults: &[Fault]) -> Option<Vec<u8>> {
     Some(bytes)
 }
 
-fn lane(tables: &Tables, image: &Image, offered: Option<u64>) -> String {
-    let offered = match offered {
-        Some(mask) => moves(tables, mask),
-        None => vec!["not told, since the image is refused".to_string()],
-    };
+fn lane(tables: &Tables, image: &Image, offered: Vec<String>) -> String {
     [
         show::section("lane", state(tables, image)),
         show::section("components", components(tables, image)),

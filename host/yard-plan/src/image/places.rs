@@ -10,6 +10,8 @@ pub const MARKS: usize = 16;
 pub const LOCATIONS: usize = 24;
 pub const LAST_PORTS: usize = 40;
 pub const VALUES: usize = 56;
+/// The cure of damage that comes before any other.
+pub const LAST_COPY: &str = "take the last good copy, or start anew";
 /// Components and variables that an image has room for.
 pub const COMPONENTS: usize = 16;
 pub const VARIABLES: usize = 64;

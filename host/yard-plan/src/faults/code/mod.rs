@@ -73,35 +73,44 @@ impl<'a> Examiner<'a> {
     /// A span past the code, too long, or empty where it may not be.
     fn extent(&self, site: &Site) -> Option<Fault> {
         let words = self.judged.tables.code.len();
-        let (start, length) = (site.span.start, site.span.length);
-        let span = format!("start {start} and length {length}");
-        let (text, cure) = if site.span.end() > words {
-            let has = match words {
-                0 => "has no code words".to_string(),
-                _ => format!("has the code words {}", below(words)),
-            };
-            let cure = format!(
-                "a start and a length that together are at most {}",
-                thousands(words)
-            );
-            (format!("{span}, but the plan {has}"), cure)
-        } else if length > MOST_WORDS {
-            let text = format!("{span}, but a span has at most {MOST_WORDS} words");
-            (text, format!("at most {MOST_WORDS} words"))
-        } else if length == 0 && site.role == Role::Proposition {
-            let cure = "at least one word".to_string();
-            (format!("{span}: a proposition is not empty"), cure)
+        let rule = if site.span.end() > words {
+            match words {
+                0 => ", but the plan has no code words".to_string(),
+                _ => format!(", but the plan has the code words {}", below(words)),
+            }
+        } else if site.span.length > MOST_WORDS {
+            format!(", but a span has at most {MOST_WORDS} words")
+        } else if site.span.length == 0 && site.role == Role::Proposition {
+            ": a proposition is not empty".to_string()
         } else {
             return None;
         };
+        let (start, length) = (site.span.start, site.span.length);
         Some(Fault {
             number: 10,
             what: site.name(),
             place: site.span.at,
-            text,
-            cure: format!("{cure}{}", self.or_else(site)),
+            text: format!("start {start} and length {length}{rule}"),
+            cure: self.extent_cure(site),
             mend: self.emptied(site),
         })
+    }
+
+    fn extent_cure(&self, site: &Site) -> String {
+        let words = self.judged.tables.code.len();
+        let cure = match (site.span.length, site.role) {
+            (0, Role::Proposition) => {
+                return "a span of at least one word that tests what it should".to_string()
+            }
+            (0, _) => return "start 0".to_string(),
+            _ if site.span.end() <= words => format!("at most {MOST_WORDS} words"),
+            _ if words == 0 => "code words for it".to_string(),
+            _ => format!(
+                "a start and a length that together are at most {}",
+                thousands(words)
+            ),
+        };
+        cure + &self.or_else(site)
     }
 
     fn word(&self, site: &Site, n: usize, word: u16) -> Option<Fault> {
@@ -143,11 +152,11 @@ impl<'a> Examiner<'a> {
         match Word::of(word) {
             Word::NoKind(kind) => wrong(
                 format!("is of kind {kind}, but kinds go from 0 to 6"),
-                "a word of kind 0 to 6",
+                "a known word that fits here",
             ),
             Word::NoOperator(operator) => wrong(
                 format!("is operator {operator}, but operators go from 0 to 7"),
-                "an operator from 0 to 7",
+                "an operator from 0 to 7, or another known word that fits here",
             ),
             Word::Store(variable) if !site.role.stores() => wrong(
                 format!("stores into v{variable}, but a {role} stores nothing"),
@@ -161,21 +170,20 @@ impl<'a> Examiner<'a> {
         }
     }
 
-    /// What else would cure a span: what `emptied` does.
+    /// The last choice, no code at all, and what that would mean. A proposition has none: what it should test is not known here.
     fn or_else(&self, site: &Site) -> String {
-        match (site.role, self.alone) {
-            (Role::Guard, _) => "; or an empty guard, which is true (length 0)".to_string(),
-            (Role::Action | Role::Transfer, _) => {
-                format!("; or an empty {} (length 0)", site.role.name())
-            }
-            (Role::Proposition, Some(word)) => {
-                format!("; or a proposition of one word, such as start {word}, length 1")
-            }
-            (Role::Proposition, None) => "; or a proposition of one word of kind 0".to_string(),
-        }
+        let then = match site.role {
+            Role::Guard => "always hold",
+            Role::Action | Role::Transfer => "do nothing",
+            Role::Proposition => return String::new(),
+        };
+        let past = site.span.start > self.judged.tables.code.len();
+        let start = if past { "start 0, " } else { "" };
+        let name = site.role.name();
+        format!("; or no {name} at all ({start}length 0): it would then {then}")
     }
 
-    /// The span made empty; a proposition made one word long. None where there is no word for it.
+    /// The span made empty; a proposition made one word long, which is lawful and no more. None where there is no word for it.
     fn emptied(&self, site: &Site) -> Option<Mend> {
         let words = self.judged.tables.code.len();
         let span = site.span;

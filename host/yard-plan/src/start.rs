@@ -1,0 +1,97 @@
+//! Whether a lane of an accepted plan can be started: the library's answer, and the reference's reading of the starting state.
+
+use std::fmt::Write;
+
+use reference::code;
+use reference::lane::Lane;
+use reference::plan::Plan;
+
+use crate::report::{number, says, ACCEPTED, DIFFERENT};
+
+const BAD_START: u32 = 15;
+
+/// Nothing where the library starts a lane; else its refusal, the cause and the cure. The status is that of the plan.
+pub fn told(plan: &[u8]) -> (String, u8) {
+    let mut scratch = [0; yard::IMAGE_BYTES];
+    explained(number(yard::start(plan, &mut scratch)), cause(plan))
+}
+
+/// The library's number and the reference's cause, which go together: 15 and a bad state, or neither.
+fn explained(number: u32, cause: Option<(String, String)>) -> (String, u8) {
+    let mut output = String::new();
+    if number != 0 {
+        let _ = write!(output, "but a start is refused {number}");
+        let why = cause.as_ref().filter(|_| number == BAD_START);
+        if let Some((why, cure)) = why {
+            let _ = write!(output, ": {why}\n  cure: {cure}");
+        }
+        output.push('\n');
+    }
+    let expected = cause.map_or(0, |_| BAD_START);
+    if number == expected {
+        return (output, ACCEPTED);
+    }
+    let (library, reference) = (says(number), says(expected));
+    let _ = writeln!(
+        output,
+        "the two differ on a start: the library {library}, the reference {reference}; the library's answer counts"
+    );
+    (output, DIFFERENT)
+}
+
+/// Why the starting state is bad and what would cure it; none where it is good.
+fn cause(plan: &[u8]) -> Option<(String, String)> {
+    let plan = Plan::read(plan).ok()?;
+    let lane = Lane::start(&plan);
+    if lane.good(&plan) {
+        return None;
+    }
+    let (first, state, letter) = (plan.first, lane.oracle, letter(&plan, &lane));
+    let why = format!(
+        "the starting state's letter {letter} leads from oracle state {first} to state {state}, which is bad"
+    );
+    let mut next = plan.oracle[first].next.iter();
+    let cure = match next.all(|&state| plan.oracle[state].verdict == 0) {
+        true => format!("another first oracle state, or another oracle: every letter leads from state {first} to a bad one"),
+        false => "other starting locations or values, or another oracle".to_string(),
+    };
+    Some((why, cure))
+}
+
+/// The sum of 2^k over the propositions k that hold.
+fn letter(plan: &Plan, lane: &Lane) -> usize {
+    let propositions = plan.propositions.iter().enumerate();
+    propositions
+        .map(|(k, &proposition)| usize::from(code::holds(plan, proposition, lane)) << k)
+        .sum()
+}
+
+#[cfg(test)]
+mod tests {
+    use super::*;
+
+    fn bad() -> Option<(String, String)> {
+        Some(("why".to_string(), "cure".to_string()))
+    }
+
+    #[test]
+    fn a_start_that_both_judge_alike() {
+        assert_eq!(explained(0, None), (String::new(), ACCEPTED));
+        let output = "but a start is refused 15: why\n  cure: cure\n".to_string();
+        assert_eq!(explained(15, bad()), (output, ACCEPTED));
+    }
+
+    #[test]
+    fn the_librarys_number_counts_where_the_two_differ() {
+        for (number, cause, first, library) in [
+            (0, bad(), "the two differ on a start: ", "accepts"),
+            (15, None, "but a start is refused 15\n", "refuses with 15"),
+            (11, bad(), "but a start is refused 11\n", "refuses with 11"),
+        ] {
+            let (output, status) = explained(number, cause);
+            assert!(output.starts_with(first), "{output}");
+            assert!(output.contains(&format!("the library {library}, the reference ")));
+            assert_eq!(status, DIFFERENT);
+        }
+    }
+}
