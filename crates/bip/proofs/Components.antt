@@ -4,7 +4,7 @@ use mathlib.Core.Logic.{_⊎_, inl, inr, _↔_}
 use Prim.Native.Nat.{ℕ, _≤_, _<_}
 use native.Mathlib.Nat.{le-trans}
 use native.Mathlib.Omega.{arith}
-use mathlib.Core.Bool.{Bool, true, false, cond, _&&_, _||_}
+use mathlib.Core.Bool.{Bool, true, false, cond, _&&_, _||_, and-true}
 use mathlib.Core.List.{List}
 use lib.ListN.{length, getD, List·getD-eq-default}
 use lib.Seq.{ext-getD}
@@ -20,7 +20,7 @@ use Rattle.semantics.specs.Image.{locationOk, lastPortOk}
 use Rattle.bip.specs.Steps.{Local, restrictedTo, variableOf, restricted, component, Q, variableIn}
 use Rattle.semantics.proofs.Basics.{bool-cases, and-both, both-and, or-cases, or-left, or-right, each, ltb-true, ltb-false, lt-ltb, le-ltb, eqb-true, eqb-same, eq-eqb, length-table, getD-table}
 use Rattle.semantics.proofs.AcceptedPlan.{accepted-plan, Counts, counts-of}
-use Rattle.semantics.proofs.Commute.{Agree}
+use Rattle.semantics.proofs.Commute.{Agree, one-owner}
 use Rattle.semantics.proofs.Evaluator.{low-word}
 use Rattle.semantics.proofs.Sound.{Sound}
 
@@ -35,15 +35,6 @@ pub owned : (p : Plan) (c v : ℕ) → variableOf p c v ≡ true → (v < variab
 unfolding variableOf
 owned p c v o = let (l, e) = and-both (ltb v (variables p)) (eqb (owner p v) c) o in (ltb-true _ _ l, eqb-true _ _ e)
 
--- a variable has one owner
-pub one-owner : (p : Plan) (c d : ℕ) → (c ≡ d → ⊥) → (v : ℕ) → variableOf p c v ≡ true → variableOf p d v ≡ false
-one-owner p c d different v o =
-    bool-cases (variableOf p d v) (λ q. absurd (different (sym (owned p c v o .1) ∙ owned p d v q .1))) (λ q. q)
-
-and-true : (b : Bool) → (b && true) ≡ b
-and-true true = refl
-and-true false = refl
-
 -- the variables that the code of a component, and of an interaction, may name (01) are X of the component, and of the interaction
 pub names-own : (p : Plan) (c : ℕ) → ownedBy p c ≡ variableOf p c
 unfolding ownedBy variableOf allOf
@@ -52,6 +43,10 @@ names-own p c = λ i v. ltb v (variables p) && and-true (eqb (owner p v) c) i
 pub names-shared : (p : Plan) (i : ℕ) → sharedIn p i ≡ variableIn p i
 unfolding sharedIn variableIn allOf
 names-shared p i = λ k v. ltb v (variables p) && and-true (takesPart p i (owner p v)) k
+
+-- a variable has one owner
+pub apart : (p : Plan) (c d : ℕ) → (c ≡ d → ⊥) → (v : ℕ) → variableOf p c v ≡ true → variableOf p d v ≡ false
+apart p c d different v = rw (← names-own p c, ← names-own p d) (one-owner p c d different v)
 
 -- a variable of the plan is its owner's
 pub owned-by-owner : (p : Plan) (v : ℕ) → v < variables p → variableOf p (owner p v) v ≡ true

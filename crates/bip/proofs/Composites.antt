@@ -1,26 +1,26 @@
 -- The engine's definitions of enabled interactions and of the state after one are the rules of 001 and 002, definitions 3 and 7, with 01's choice.
-use mathlib.Core.Path.{_≡_, refl, sym, ap, _∙_, subst}
+use mathlib.Core.Path.{_≡_, refl, sym, _∙_, subst}
 use mathlib.Core.Logic.{_↔_}
 use Prim.Native.Nat.{ℕ, zero, suc, _≤_, _<_}
 use native.Mathlib.Nat.{le-refl, le-trans, le-of-lt, lt-irrefl, not-suc-le-zero}
-use mathlib.Core.Bool.{Bool, true, false, cond}
+use mathlib.Core.Bool.{true, false, cond}
 use mathlib.Core.List.{List}
 use lib.ListN.{length, getD}
-use lib.Dec.{ltb, eqb}
+use lib.Dec.{ltb}
 use lib.IntN.{ℤ, pos}
 use Rattle.semantics.specs.Bytes.{implies, lowest}
-use Rattle.semantics.specs.Signed.{holds}
-use Rattle.semantics.specs.Plan.{Plan, Span, components, variables, transitions, interactions, firstOracle, componentOf, guardOf, actionOf, portIn, takesPart, interactionGuard, transferOf, owner}
-use Rattle.semantics.specs.Code.{State, valued, guardHolds, acted, asGuard, asUpdate, spanOk}
+use Rattle.semantics.specs.Plan.{Plan, components, variables, transitions, interactions, firstOracle, actionOf, portIn, takesPart, transferOf, owner}
+use Rattle.semantics.specs.Code.{State, valued, acted, asUpdate, spanOk}
 use Rattle.semantics.specs.Rules.{planRefusal}
 use Rattle.semantics.specs.Move.{Configuration, ready, chosen, chosenIn, enabled, actedBelow, fired, judged, after}
-use Rattle.bip.specs.Steps.{Local, restrictedTo, variableOf, restricted, Able, Takes, Atomic, atomic, component, Q, variableIn, attached, received, Composite, fire, ByLowest, Chosen}
-use Rattle.semantics.proofs.Basics.{bool-cases, absurd-bool, and-both, both-and, implies-yes, each, all-of, lt-ltb, eqb-true, eq-eqb, below-suc, every-all, ltb-true, lowest-is, lowest-unique, lowest-none}
-use Rattle.semantics.proofs.AcceptedPlan.{accepted-plan, guard-ok, action-ok, interaction-guard-ok, transfer-ok}
+use Rattle.bip.specs.Steps.{Local, variableOf, restricted, Able, Takes, Atomic, atomic, component, Q, variableIn, received, Composite, fire, ByLowest, Chosen}
+use Rattle.semantics.proofs.Basics.{bool-cases, absurd-bool, and-both, implies-yes, each, all-of, lt-ltb, below-suc, every-all, ltb-true, lowest-is, lowest-unique, lowest-none}
+use Rattle.semantics.proofs.AcceptedPlan.{accepted-plan}
 use Rattle.semantics.proofs.OneMove.{uses, uses-lowest, part-moves, other-stays}
 use Rattle.semantics.proofs.Sound.{sound-after}
 use Rattle.semantics.proofs.Commute.{Agree, local, frame, acted-long}
-use Rattle.bip.proofs.Components.{counted, owned, one-owner, names-own, names-shared, few-owned, few-shared, restricted-long, restricted-other, restricted-is, restricted-agrees, same-restricted, state-of, sound-of, same-component, state-is-tuple}
+use Rattle.bip.proofs.Components.{counted, owned, apart, few-owned, restricted-long, restricted-other, restricted-is, restricted-agrees, same-restricted, state-of, sound-of, same-component, state-is-tuple}
+use Rattle.bip.proofs.Reading.{own-action, shared-transfer, same-guard, able-ready, ready-able, guard-sees, transfer-sees}
 
 -- ---- atomic components
 
@@ -29,78 +29,8 @@ takes-one : (p : Plan) (c port t : ℕ) (q : Local) (vs : List ℤ) (a b : Local
 takes-one p c port t q vs a b h k =
     λ j. record { location = (h .reaches ∙ sym (k .reaches)) j; valuation = (h .computes ∙ sym (k .computes)) j; lastPort = (h .remembers ∙ sym (k .remembers)) j }
 
-module _ (p : Plan) (z : planRefusal p ≡ 0) where
-  -- 01's rule on the variables that code names, of X: "A transition's code names its own component's variables, an interaction's those of components
-  -- taking part"
-  own-guard : (c t : ℕ) → t < transitions p → componentOf p t ≡ c → spanOk p asGuard (variableOf p c) (guardOf p t) ≡ true
-  own-guard c t l e = rw (← names-own p c, ← e) (guard-ok p (accepted-plan p z) t l)
-
-  own-action : (c t : ℕ) → t < transitions p → componentOf p t ≡ c → spanOk p asUpdate (variableOf p c) (actionOf p t) ≡ true
-  own-action c t l e = rw (← names-own p c, ← e) (action-ok p (accepted-plan p z) t l)
-
-  shared-guard : (i : ℕ) → i < interactions p → spanOk p asGuard (variableIn p i) (interactionGuard p i) ≡ true
-  shared-guard i l = rw (← names-shared p i) (interaction-guard-ok p (accepted-plan p z) i l)
-
-  shared-transfer : (i : ℕ) → i < interactions p → spanOk p asUpdate (variableIn p i) (transferOf p i) ≡ true
-  shared-transfer i l = rw (← names-shared p i) (transfer-ok p (accepted-plan p z) i l)
-
-  -- a guard holds of a valuation restricted to the variables that it may name exactly where it holds of the whole state
-  restricted-guard : (names : ℕ → Bool) → ((v : ℕ) → names v ≡ true → v < 64) → (g : Span) → spanOk p asGuard names g ≡ true → (q : State) → length (q .values) ≡ 64
-      → guardHolds p (valued (restrictedTo names (q .values))) g ≡ guardHolds p q g
-  unfolding guardHolds
-  restricted-guard names few g ok q long =
-      ap (λ (xs : List ℤ). cond (eqb (g .size) 0) true (holds (getD xs 0 (pos 0))))
-      (local p asGuard names refl g ok (valued (restrictedTo names (q .values))) q (restricted-agrees names few (q .values) long) .0)
-
-  same-guard : (q : State) → length (q .values) ≡ 64 → (c t : ℕ) → t < transitions p → componentOf p t ≡ c
-      → guardHolds p (valued (restricted p c (q .values))) (guardOf p t) ≡ guardHolds p q (guardOf p t)
-  same-guard q long c t l e = restricted-guard (variableOf p c) (few-owned p z c) (guardOf p t) (own-guard c t l e) q long
-
 module _ (p : Plan) (z : planRefusal p ≡ 0) (q : State) (h : Q p q) where
-  able-ready : (c port t : ℕ) → Able p c port t (component p q c) → ready p q c port t ≡ true
-  unfolding ready component
-  able-ready c port t a =
-      all-of _ (eq-eqb _ _ (a .own), (eq-eqb _ _ (a .leaves), (eq-eqb _ _ (a .through), (sym (same-guard p z q (h .values-long) c t (a .known) (a .own)) ∙ a .guarded, tt))))
-
-  ready-able : (c port t : ℕ) → t < transitions p → ready p q c port t ≡ true → Able p c port t (component p q c)
-  unfolding ready component
-  ready-able c port t l e =
-      let (o, (f, (k, (g, _)))) = each _ e in
-      let own : componentOf p t ≡ c = eqb-true _ _ o in
-      record {
-        known = l;
-        own = own;
-        leaves = eqb-true _ _ f;
-        through = eqb-true _ _ k;
-        guarded = same-guard p z q (h .values-long) c t l own ∙ g;
-      }
-
-  -- 002 definition 3: a transition may fire on the component's own valuation exactly when it is ready in the whole state
-  pub able-exactly : (c port t : ℕ) → Able p c port t (component p q c) ↔ ((t < transitions p) × (ready p q c port t ≡ true))
-  able-exactly c port t = ((λ a. (a .known, able-ready c port t a)), (λ r. ready-able c port t (r .0) (r .1)))
-
   module _ (i : ℕ) (l : i < interactions p) where
-    -- ---- what an interaction reads
-
-    -- 002 definition 7, G_a(v(X)): the guard of an interaction sees no more than the variables of the components taking part
-    pub guard-sees : guardHolds p (attached p q i) (interactionGuard p i) ≡ guardHolds p q (interactionGuard p i)
-    unfolding attached
-    guard-sees = restricted-guard p z (variableIn p i) (few-shared p z i) (interactionGuard p i) (shared-guard p z i l) q (h .values-long)
-
-    own-shared : (c v : ℕ) → takesPart p i c ≡ true → variableOf p c v ≡ true → variableIn p i v ≡ true
-    unfolding variableIn
-    own-shared c v t o = let (k, e) = owned p c v o in both-and (lt-ltb _ _ k) (rw e t)
-
-    -- 002 definition 7, F_{a_i}(v(X)): nor does its transfer, in what a component taking part receives
-    pub transfer-sees : (c : ℕ) → takesPart p i c ≡ true → received p q i c ≡ restricted p c (acted p q (transferOf p i) .values)
-    unfolding received attached
-    transfer-sees c t =
-        same-restricted (variableOf p c) (few-owned p z c) (acted p (valued (restrictedTo (variableIn p i) (q .values))) (transferOf p i) .values)
-        (acted p q (transferOf p i) .values) .1
-        (λ v o.
-        local p asUpdate (variableIn p i) refl (transferOf p i) (shared-transfer p z i l) (valued (restrictedTo (variableIn p i) (q .values))) q
-        (restricted-agrees (variableIn p i) (few-shared p z i) (q .values) (h .values-long)) .1 .same-at v (own-shared c v t o))
-
     -- ---- the move is a step
 
     module _ (e : enabled p q i ≡ true) where
@@ -116,7 +46,7 @@ module _ (p : Plan) (z : planRefusal p ≡ 0) (q : State) (h : Q p q) where
       unfolding actedBelow
       other-turn c n different k v o =
           bool-cases (takesPart p i n)
-          (λ t. rw t (frame p asUpdate (variableOf p n) (actionOf p (chosenIn p q i n)) (use-own n k t) (actedBelow p q i n) v (one-owner p c n different v o)))
+          (λ t. rw t (frame p asUpdate (variableOf p n) (actionOf p (chosenIn p q i n)) (use-own n k t) (actedBelow p q i n) v (apart p c n different v o)))
           (λ t. rw t refl)
 
       -- before its own turn, c's variables are as the transfer left them
@@ -171,7 +101,7 @@ module _ (p : Plan) (z : planRefusal p ≡ 0) (q : State) (h : Q p q) where
           let g = actionOf p (chosenIn p q i c) in
           let vs : List ℤ = transferred .values in
           let got : State = valued (restricted p c vs) in
-          rw (transfer-sees c t)
+          rw (transfer-sees p z q h i l c t)
           (restricted-is (variableOf p c) (fired p q i .values) (acted p got g .values) (acted-long p got g ∙ restricted-long (variableOf p c) vs)
           (λ v o. (fired-own c k v o ∙ rw t refl)
           ∙ sym (local p asUpdate (variableOf p c) refl g (use-own c k t) got transferred (restricted-agrees (variableOf p c) (few-owned p z c) vs transferred-long) .1 .same-at v o))
@@ -228,14 +158,14 @@ module _ (p : Plan) (z : planRefusal p ≡ 0) (q : State) (h : Q p q) where
       other-same c k t = let m = other-stays p begun i c (low c k) t in same-component p (fired p q i) q c (m .0) (other-keeps c k t) (m .1)
 
       used-lowest : (c : ℕ) (t : ℕ) → t < chosenIn p q i c → Able p c (portIn p i c) t (component p q c) → ⊥
-      used-lowest c t m a = absurd-bool (able-ready c (portIn p i c) t a) (uses-lowest p q i c t m)
+      used-lowest c t m a = absurd-bool (able-ready p z q h c (portIn p i c) t a) (uses-lowest p q i c t m)
 
       -- 002 definition 7 with 01's choice: the engine's move is a step
       pub move-is-step : Chosen p q i (fired p q i)
       unfolding enabled
       move-is-step =
           record {
-            step = fire l (guard-sees ∙ each _ e .0) (λ c k t. atomic (chosenIn p q i c) (part-takes c k t)) other-same fired-state;
+            step = fire l (guard-sees p z q h i l ∙ each _ e .0) (λ c k t. atomic (chosenIn p q i c) (part-takes c k t)) other-same fired-state;
             picks = λ c k t. record { transition = chosenIn p q i c; takes = part-takes c k t; lowest = used-lowest c };
           }
 
@@ -247,14 +177,14 @@ module _ (p : Plan) (z : planRefusal p ≡ 0) (q : State) (h : Q p q) where
     used-known c t a =
         let f = ready p q c (portIn p i c) in
         bool-cases (ltb (lowest (transitions p) f) (transitions p)) (ltb-true _ _)
-        (λ n. absurd-bool (able-ready c (portIn p i c) t a) (lowest-none (transitions p) f n t (a .known)))
+        (λ n. absurd-bool (able-ready p z q h c (portIn p i c) t a) (lowest-none (transitions p) f n t (a .known)))
 
     -- 002 definition 7: where there is a step, the engine's test holds
     pub step-enabled : (q' : State) → Composite p q i q' → enabled p q i ≡ true
     unfolding enabled
     step-enabled q' (fire k g parts others state) =
         all-of _ (
-          sym guard-sees ∙ g,
+          sym (guard-sees p z q h i l) ∙ g,
           (
             every-all (components p) (λ c. implies (takesPart p i c) (ltb (chosenIn p q i c) (transitions p)))
                 (λ c m. implies-yes (takesPart p i c) (ltb (chosenIn p q i c) (transitions p)) (λ t. lt-ltb _ _ (found c (parts c m t)))),
@@ -277,8 +207,8 @@ module _ (p : Plan) (z : planRefusal p ≡ 0) (q : State) (h : Q p q) where
         lowest-unique (transitions p) f t (lowest (transitions p) f)
         (record {
           at-most = le-of-lt (a .known);
-          hit = λ m. able-ready c (portIn p i c) t a;
-          missed = λ u m. bool-cases (f u) (λ r. absurd (none u m (ready-able c (portIn p i c) u (le-trans m (le-of-lt (a .known))) r))) (λ r. r);
+          hit = λ m. able-ready p z q h c (portIn p i c) t a;
+          missed = λ u m. bool-cases (f u) (λ r. absurd (none u m (ready-able p z q h c (portIn p i c) u (le-trans m (le-of-lt (a .known))) r))) (λ r. r);
         })
         (lowest-is (transitions p) f)
 

@@ -6,9 +6,11 @@ pub mod Events
 pub mod KnownImage
 pub mod MonitorRules
 pub mod Priorities
+pub mod Reading
 pub mod Runs
 pub mod SafetyProperty
 pub mod Settling
 pub mod SupervisedSteps
+pub mod SupervisedTraces
 pub mod Traces
 pub mod Trying

@@ -21,8 +21,8 @@ use Rattle.semantics.proofs.Sound.{Sound}
 use Rattle.semantics.proofs.Ranking.{eligible-enabled, eligible-top, eligible-from, commit-eligible, commit-good, commit-from}
 use Rattle.semantics.proofs.PennedExactly.{Stuck}
 use Rattle.semantics.proofs.ExactAnswers.{offered-exactly}
-use Rattle.bip.specs.Steps.{EngineStep, Path, here, further}
-use Rattle.bip.specs.Monitor.{Label, did, ε, doneIn}
+use Rattle.bip.specs.Steps.{EngineStep, Trace, still, onward, endOf}
+use Rattle.bip.specs.Monitor.{Label, did, ε, stutter-free}
 use Rattle.bip.specs.Disabler.{Disabler, receives, recovers, continues, Supervised, supervised, SupervisedStep, continued, recovered, SupervisedMove}
 use Rattle.bip.proofs.Components.{state-of}
 use Rattle.bip.proofs.KnownImage.{Known, known}
@@ -82,10 +82,11 @@ module _ (p : Plan) (ok : planRefusal p ≡ 0) where
   module _ (c : Configuration) (h : Sound p c) (stuck : Stuck p c) where
     -- recovered steps from the disabler d on, after which each eligible interaction below n is disabled
     pub record Recovering (n : ℕ) (d : Disabler) : Type 0 where
-      pub labels : List Label
+      pub trace : List (Label × Supervised)
       pub last : Disabler
-      pub path : Path (SupervisedMove p (EngineStep p)) (supervised c d) labels (supervised c last)
-      pub silent : doneIn labels ≡ []
+      pub steps : Trace (SupervisedMove p (EngineStep p)) (supervised c d) trace
+      pub ends : endOf (supervised c d) trace ≡ supervised c last
+      pub silent : stutter-free trace ≡ []
       pub disabled : (j : ℕ) → j < n → eligible p (c .state) j ≡ true → last .enab j ≡ false
       pub still : (j : ℕ) → d .enab j ≡ false → last .enab j ≡ false
       pub others : (j : ℕ) → eligible p (c .state) j ≡ false → last .enab j ≡ d .enab j
@@ -93,9 +94,10 @@ module _ (p : Plan) (ok : planRefusal p ≡ 0) where
     passed : (n : ℕ) (d : Disabler) → (eligible p (c .state) n ≡ true → d .enab n ≡ false) → Recovering n d → Recovering (suc n) d
     passed n d off r =
         record {
-          labels = r .labels;
+          trace = r .trace;
           last = r .last;
-          path = r .path;
+          steps = r .steps;
+          ends = r .ends;
           silent = r .silent;
           disabled = λ j l e. below-suc l (λ m. r .disabled j m e)
               (λ q. r .still j (subst (λ (x : ℕ). d .enab x ≡ false) (sym q) (off (subst (λ (x : ℕ). eligible p (c .state) x ≡ true) q e))));
@@ -104,13 +106,14 @@ module _ (p : Plan) (ok : planRefusal p ≡ 0) where
         }
 
     stepped : (n : ℕ) (d : Disabler) → n < interactions p → eligible p (c .state) n ≡ true → d .enab n ≡ true → Recovering n (without d n) → Recovering (suc n) d
-    unfolding doneIn
+    unfolding stutter-free endOf
     stepped n d l q on r =
         let bad = stuck .none-good n l (eligible-enabled p (c .state) n q) (eligible-top p (c .state) n q) in
         record {
-          labels = ε ∷ r .labels;
+          trace = (ε, supervised c (without d n)) ∷ r .trace;
           last = r .last;
-          path = further (n, step-from n h (record { number< = l; is-eligible = q; not-disabled = on }) (leads-back bad)) (r .path);
+          steps = onward (n, step-from n h (record { number< = l; is-eligible = q; not-disabled = on }) (leads-back bad)) (r .steps);
+          ends = r .ends;
           silent = r .silent;
           disabled = λ j m e. below-suc m (λ k. r .disabled j k e) (λ k. r .still j (rw (eq-eqb j n k) refl));
           still = λ j e. r .still j (gone (eqb j n) e);
@@ -122,12 +125,13 @@ module _ (p : Plan) (ok : planRefusal p ≡ 0) where
         gone false e = e
 
     pub recovering : (n : ℕ) → n ≤ interactions p → (d : Disabler) → Recovering n d
-    unfolding doneIn
+    unfolding stutter-free endOf
     recovering zero m d =
         record {
-          labels = [];
+          trace = [];
           last = d;
-          path = here;
+          steps = still;
+          ends = refl;
           silent = refl;
           disabled = λ j l. absurd (not-suc-le-zero l);
           still = λ j e. e;

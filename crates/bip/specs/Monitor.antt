@@ -68,12 +68,6 @@ pub data Label : Type 0 where
   did : ℕ → Label
   ε : Label
 
--- The interactions done, without the ε.
-unfoldable pub doneIn : List Label → List ℕ
-doneIn [] = []
-doneIn (did i ∷ ls) = i ∷ doneIn ls
-doneIn (ε ∷ ls) = doneIn ls
-
 -- ⟨q, θ⟩
 abbrev pub pair : State → ℕ → Configuration
 pair q θ = record { state = q; oracle = θ }

@@ -5,4 +5,4 @@ pub use Rattle.semantics.proofs.OneMove.{Uses, uses, uses-lowest, value
 pub use Rattle.semantics.proofs.Ranking.{outranked-exactly, safe-commits, safe-lowest, safe-none}
 pub use Rattle.semantics.proofs.RankOrder.{Order, rank-order}
 pub use Rattle.semantics.proofs.CodeRules.{CodeNames, code-names, OnlyRead, only-read}
-pub use Rattle.semantics.proofs.OneCall.{offered-means, good-committed, Cancelled, bad-cancelled, safe-committed, bad-crossed}
+pub use Rattle.semantics.proofs.OneCall.{offered-means, good-committed, OneMarkMore, bad-cancelled, safe-committed, bad-crossed}

@@ -1,15 +1,14 @@
 -- What a turn of the book can be: it lists a move that may be committed, or it crosses moves off, or it changes nothing.
-use mathlib.Core.Path.{_≡_, refl, sym, ap, ap₂, _∙_, subst}
+use mathlib.Core.Path.{_≡_, refl}
 use Prim.Native.Nat.{ℕ, zero, suc, _<_}
-use mathlib.Core.Bool.{Bool, true, false, not, cond, _&&_, _||_}
-use mathlib.Core.List.{List, [], _∷_, _++_}
+use mathlib.Core.Bool.{Bool, true, false}
+use mathlib.Core.List.{List, [], _∷_}
 use lib.Dec.{ltb, eqb}
 use Rattle.semantics.specs.Bytes.{some-below}
 use Rattle.semantics.specs.Plan.{Plan, interactions}
 use Rattle.semantics.specs.Rules.{planRefusal}
 use Rattle.semantics.specs.Move.{enabled, eligible, after, good, mayCommit, safeMove}
-use Rattle.semantics.specs.Image.{Image}
-use Rattle.semantics.specs.Calls.{Answer, offers, committed, cancelled, stalled, penned, refused, Outcome, outcome, Call, offered, try, settle}
+use Rattle.semantics.specs.Calls.{Answer, committed, cancelled, stalled, penned, refused, Call, offered, try, settle}
 use Rattle.semantics.specs.Book.{Book, lane, bookImage, listed, crossedOff, Entry, entry, bookOffered, bookRefusal, bookTried, unlessWrong, bookSettled, turn, told, kept}
 use Rattle.semantics.specs.Run.{commits, crosses, leftBy}
 use Rattle.semantics.proofs.Basics.{bool-cases, ltb-true}

@@ -1,15 +1,15 @@
 -- Demand 3, first corollary: after any calls from an accepted start on, the bytes of the image but the marks are those that the last start or
 -- commit left.
-use mathlib.Core.Path.{_≡_, refl, sym, ap, _∙_, subst}
+use mathlib.Core.Path.{_≡_, refl}
 use Prim.Native.Nat.{ℕ}
-use mathlib.Core.Bool.{Bool, true, false, cond}
-use mathlib.Core.List.{List, [], _∷_, _++_}
-use Rattle.semantics.specs.Bytes.{leBytes, mask}
+use mathlib.Core.Bool.{Bool, cond}
+use mathlib.Core.List.{List, [], _∷_}
+use Rattle.semantics.specs.Bytes.{leBytes}
 use Rattle.semantics.specs.Plan.{Plan}
 use Rattle.semantics.specs.Rules.{planRefusal}
 use Rattle.semantics.specs.Image.{Image, head, image}
-use Rattle.semantics.specs.Calls.{Answer, committed, Outcome, outcome, start, Call, calledAll}
-use Rattle.semantics.specs.Book.{Book, blank, lane, bookImage, listed, crossedOff, Entry, entry, turn, told}
+use Rattle.semantics.specs.Calls.{start, Call, calledAll}
+use Rattle.semantics.specs.Book.{Book, blank, lane, bookImage, crossedOff, Entry, turn, told}
 use Rattle.semantics.specs.Run.{commits, leftBy, lastCommitted}
 pub use Rattle.semantics.proofs.OneCall.{SameButMarks}
 use Rattle.semantics.proofs.BookStep.{Lawful, turn-lawful}

@@ -1,14 +1,14 @@
 -- Demand 3, third corollary: the moves committed by any calls from an accepted start on are a run of the ranked system through good states.
-use mathlib.Core.Path.{_≡_, refl, sym, ap, _∙_, subst}
+use mathlib.Core.Path.{_≡_, refl}
 use Prim.Native.Nat.{ℕ}
-use mathlib.Core.Bool.{Bool, true, false, cond}
-use mathlib.Core.List.{List, [], _∷_, _++_}
+use mathlib.Core.Bool.{true, cond}
+use mathlib.Core.List.{List, [], _∷_}
 use Rattle.semantics.specs.Plan.{Plan, interactions}
 use Rattle.semantics.specs.Rules.{planRefusal}
 use Rattle.semantics.specs.Move.{initial}
 use Rattle.semantics.specs.Image.{Image}
-use Rattle.semantics.specs.Calls.{Answer, committed, Outcome, outcome, start, Call, calledAll}
-use Rattle.semantics.specs.Book.{Book, blank, lane, replay, bookImage, listed, crossedOff, Entry, entry, turn, told}
+use Rattle.semantics.specs.Calls.{start, Call, calledAll}
+use Rattle.semantics.specs.Book.{Book, blank, lane, replay, Entry, turn, told}
 use Rattle.semantics.specs.Run.{isRun, commits, committedMoves}
 use Rattle.semantics.proofs.Basics.{all-of, lt-ltb}
 use Rattle.semantics.proofs.BookStep.{Lawful, turn-lawful, lane-listed, lane-crossed}

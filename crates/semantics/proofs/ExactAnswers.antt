@@ -4,7 +4,7 @@ use mathlib.Core.Path.{_≡_, refl, sym, ap, _∙_, subst}
 use mathlib.Core.Logic.{_↔_, Iff·rfl, Iff·trans, Iff·and}
 use Prim.Native.Nat.{ℕ, zero, suc, _≤_, _<_}
 use native.Mathlib.Nat.{le-antisymm}
-use mathlib.Core.Bool.{true, false, cond, _||_}
+use mathlib.Core.Bool.{true, false, cond}
 use mathlib.Core.List.{[]}
 use lib.Dec.{ltb, eqb}
 use Rattle.semantics.specs.Bytes.{bit, mask, withBit}
@@ -25,7 +25,7 @@ use Rattle.semantics.proofs.PennedExactly.{Stuck, penned-exactly}
 use Rattle.semantics.proofs.Performed.{Performs, offering, committing, cancelling, settling, penning, stalling, performs, other-kind}
 use Rattle.semantics.proofs.RefusedUnchanged.{Refused, same-not-refused, accepted-not-refused, performed-not-refused, not-refused, called-performed, answers-exactly, own-exactly, kept-exactly, refused-is}
 use Rattle.semantics.proofs.RefusalConditions.{AnyCall, checking, starting, calling, answerTo, rulesOf, numbersOf, all-numbered, gives-own}
-use Rattle.semantics.proofs.OneCall.{SameButMarks, marks-written, others-same, offered-means, bad-cancelled}
+use Rattle.semantics.proofs.OneCall.{SameButMarks, OneMarkMore, marks-written, others-same, offered-means, bad-cancelled}
 
 -- ---- not refused
 
@@ -254,16 +254,12 @@ start-bytes p b e =
     (not-refused (refusal (startRules p b)) b _ (same-not-refused e accepted-not-refused))
 
 -- "its mark is set and no other byte differs"
-pub record OneMarkMore (b b' : Image) (i : ℕ) : Type 0 where
-  pub marks : (j : ℕ) → j < 64 → bit (marksOf b') j ≡ (bit (marksOf b) j || eqb j i)
-  pub others : SameButMarks b' b
-
 pub cancelled-bytes : (p : Plan) (b : Image) (i : ℕ) → called p b (try i) .answer ≡ cancelled i → OneMarkMore b (called p b (try i) .image) i
 unfolding keeps planRules imageRules lengthRule callRules
 cancelled-bytes p b i e =
     let (h, g) = cancelled-exactly p b i .0 e in
-    let c = bad-cancelled p b i (eqb-true _ _ (kept-number 11 (callRules p b (try i)) h)) g in
-    rw (called-performed p b (try i) (same-not-refused e (eqb-false 2 5 refl))) (record { marks = c .marks; others = c .others })
+    rw (called-performed p b (try i) (same-not-refused e (eqb-false 2 5 refl)))
+    (bad-cancelled p b i (eqb-true _ _ (kept-number 11 (callRules p b (try i)) h)) g .1)
 
 -- "penned otherwise, with every enabled, unoutranked interaction marked"
 pub record EligibleMarked (p : Plan) (b b' : Image) : Type 0 where

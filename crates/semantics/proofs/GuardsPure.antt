@@ -1,9 +1,8 @@
 -- Guards and propositions of an accepted plan store nothing: they hold no word of kind 3.
-use mathlib.Core.Path.{_≡_, refl, sym, ap, _∙_}
-use Prim.Native.Nat.{ℕ, zero, suc, _+_, _≤_, _<_}
-use native.Mathlib.Nat.{le-refl}
+use mathlib.Core.Path.{_≡_, refl, _∙_}
+use Prim.Native.Nat.{ℕ, zero, suc, _+_, _<_}
 use mathlib.Core.Bool.{Bool, true, false}
-use mathlib.Core.List.{List, [], _∷_}
+use mathlib.Core.List.{[]}
 use mathlib.Core.Option.{some}
 use Rattle.semantics.specs.Plan.{Plan, Span, transitions, interactions, propositions, guardOf, interactionGuard, propositionOf, word}
 use Rattle.semantics.specs.Code.{State, Instruction, push, extendTop, load, store, located, lastPort, operator, unknown, decode, Machine, perform, ran, acted, Role, allowed, depth, spanOk}

@@ -2,7 +2,7 @@
 use mathlib.Core.Path.{_≡_, refl, sym, ap, ap₂, _∙_, subst}
 use Prim.Native.Nat.{ℕ, _+_, _*_, _-_, _≤_, _<_}
 use native.Mathlib.Omega.{arith}
-use mathlib.Core.Bool.{true, false, false≢true}
+use mathlib.Core.Bool.{true, false≢true}
 use mathlib.Core.List.{List, _++_}
 use lib.ListN.{length, getD, take, drop, length-append, length-drop, take-append-drop, List·getD-eq-default, List·getD-append}
 use lib.Seq.{length-take-le, drop-at, drop-drop, getD-take}
@@ -11,7 +11,7 @@ use lib.IntN.{ℤ, pos, negsuc}
 use Rattle.semantics.specs.Bytes.{byte, u32, leBytes, table}
 use Rattle.semantics.specs.Signed.{signed, wrap, equalZ}
 use Rattle.semantics.specs.Plan.{Plan, variables}
-use Rattle.semantics.specs.Image.{Image, imageLength, image, withMarks, configurationOf, valueOk, configurationOk}
+use Rattle.semantics.specs.Image.{Image, imageLength, withMarks, configurationOf, valueOk, configurationOk}
 use Rattle.semantics.proofs.Basics.{bool-cases, absurd-bool, or-cases, ltb-true, ltb-false, lt-ltb, le-ltb, eqb-true, length-table, getD-table}
 use Rattle.semantics.proofs.Masks.{length-leBytes}
 use Rattle.semantics.proofs.Images.{u32-past}

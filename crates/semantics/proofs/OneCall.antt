@@ -50,6 +50,11 @@ module _ (b : Image) (m : ℕ) (e : length b ≡ imageLength) where
         behind = drop-at (take 16 b ++ leBytes 8 m) (drop 24 b) 24 (length-append (take 16 b) (leBytes 8 m) ∙ rw (first-long, length-leBytes 8 m) refl);
       }
 
+-- "its mark is set and no other byte differs": b' is b with one mark more
+pub record OneMarkMore (b b' : Image) (i : ℕ) : Type 0 where
+  pub marks : (j : ℕ) → j < 64 → bit (marksOf b') j ≡ (bit (marksOf b) j || eqb j i)
+  pub others : SameButMarks b' b
+
 -- ---- the calls
 
 module _ (p : Plan) (b : Image) where
@@ -72,20 +77,17 @@ module _ (p : Plan) (b : Image) where
   good-committed i g = rw g refl
 
   -- "A bad one is cancelled: its mark is set and no other byte differs." Nor does another mark.
-  pub record Cancelled (i : ℕ) : Type 0 where
-    pub answer : performed p b (try i) .answer ≡ cancelled i
-    pub marks : (j : ℕ) → j < 64 → bit (marksOf (performed p b (try i) .image)) j ≡ (bit (marksOf b) j || eqb j i)
-    pub others : SameButMarks (performed p b (try i) .image) b
-
-  pub bad-cancelled : (i : ℕ) → length b ≡ imageLength → good p (after p (configurationOf b) i) ≡ false → Cancelled i
+  pub bad-cancelled : (i : ℕ) → length b ≡ imageLength → good p (after p (configurationOf b) i) ≡ false
+      → (performed p b (try i) .answer ≡ cancelled i) × OneMarkMore b (performed p b (try i) .image) i
   unfolding performed tried withBit
   bad-cancelled i e g =
-      let m : ℕ = mask 64 (λ j. bit (marksOf b) j || eqb j i) in
-      record {
-        answer = rw g refl;
-        marks = λ j l. rw (g, marks-written b m e (mask-lt 64 (λ k. bit (marksOf b) k || eqb k i))) (bit-mask 64 (λ k. bit (marksOf b) k || eqb k i) j l);
-        others = rw g (others-same b m e);
-      }
+      let m : ℕ = mask 64 (λ j. bit (marksOf b) j || eqb j i) in (
+        rw g refl,
+        record {
+          marks = λ j l. rw (g, marks-written b m e (mask-lt 64 (λ k. bit (marksOf b) k || eqb k i))) (bit-mask 64 (λ k. bit (marksOf b) k || eqb k i) j l);
+          others = rw g (others-same b m e);
+        },
+      )
 
   -- "Settling commits the lowest-numbered enabled, unoutranked move that ends in a good state."
   pub safe-committed : safeMove p (configurationOf b) < interactions p

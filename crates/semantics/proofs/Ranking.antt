@@ -1,5 +1,5 @@
 -- Laws of the ranking: outranked, eligible, the moves that may be committed. Elsewhere these laws are cited, and the three are not opened.
-use mathlib.Core.Path.{_≡_, refl, sym, ap, ap₂, _∙_}
+use mathlib.Core.Path.{_≡_, sym, ap, ap₂, _∙_}
 use mathlib.Core.Logic.{_↔_}
 use Prim.Native.Nat.{ℕ, _<_}
 use mathlib.Core.Bool.{Bool, true, false, not, _&&_}

@@ -3,7 +3,7 @@
 use std::fmt::{self, Display};
 
 use crate::text;
-use crate::words::{Operator, Word};
+use crate::words::{sign, Operator, Word};
 
 #[derive(Clone, Debug, PartialEq, Eq)]
 pub enum Expression {
@@ -188,7 +188,7 @@ impl Display for Expression {
             }
             Expression::Joined(operator, left, right) => {
                 left.operand(f, self.class(), true)?;
-                write!(f, " {} ", operator.sign())?;
+                write!(f, " {} ", sign(*operator))?;
                 right.operand(f, self.class(), false)
             }
         }

@@ -1,40 +1,29 @@
 //! Code words taken apart.
 
-#[derive(Clone, Copy, Debug, PartialEq, Eq)]
-pub enum Operator {
-    Add,
-    Subtract,
-    Equal,
-    AtLeast,
-    And,
-    Or,
-    Not,
-    Implies,
-}
+pub use reference::code::Operator;
 
-impl Operator {
-    const ALL: [Operator; 8] = [
-        Operator::Add,
-        Operator::Subtract,
-        Operator::Equal,
-        Operator::AtLeast,
-        Operator::And,
-        Operator::Or,
-        Operator::Not,
-        Operator::Implies,
-    ];
+/// The operators by their numbers.
+const OPERATORS: [Operator; 8] = [
+    Operator::Add,
+    Operator::Subtract,
+    Operator::Equal,
+    Operator::AtLeast,
+    Operator::And,
+    Operator::Or,
+    Operator::Not,
+    Operator::Implies,
+];
 
-    pub fn sign(self) -> &'static str {
-        match self {
-            Operator::Add => "+",
-            Operator::Subtract => "-",
-            Operator::Equal => "=",
-            Operator::AtLeast => ">=",
-            Operator::And => "and",
-            Operator::Or => "or",
-            Operator::Not => "not",
-            Operator::Implies => "implies",
-        }
+pub fn sign(operator: Operator) -> &'static str {
+    match operator {
+        Operator::Add => "+",
+        Operator::Subtract => "-",
+        Operator::Equal => "=",
+        Operator::AtLeast => ">=",
+        Operator::And => "and",
+        Operator::Or => "or",
+        Operator::Not => "not",
+        Operator::Implies => "implies",
     }
 }
 
@@ -77,7 +66,7 @@ impl Word {
                 component,
                 port: low,
             },
-            6 => Operator::ALL
+            6 => OPERATORS
                 .get(usize::from(operand))
                 .map_or(Word::NoOperator(operand), |&operator| Word::Apply(operator)),
             kind => Word::NoKind(kind),

@@ -16,43 +16,6 @@ pub const REFUSED: u32 = 5;
 
 pub const IMAGE_BYTES: usize = 312;
 
-mod raw {
-    extern "C" {
-        pub fn yard_check(plan: *const u8, plan_len: usize) -> u32;
-        pub fn yard_start(
-            plan: *const u8,
-            plan_len: usize,
-            image: *mut u8,
-            image_len: usize,
-        ) -> u32;
-        pub fn yard_offered(
-            plan: *const u8,
-            plan_len: usize,
-            image: *const u8,
-            image_len: usize,
-        ) -> u32;
-        pub fn yard_offered_bits(
-            plan: *const u8,
-            plan_len: usize,
-            image: *const u8,
-            image_len: usize,
-        ) -> u64;
-        pub fn yard_try(
-            plan: *const u8,
-            plan_len: usize,
-            image: *mut u8,
-            image_len: usize,
-            interaction: u32,
-        ) -> u32;
-        pub fn yard_settle(
-            plan: *const u8,
-            plan_len: usize,
-            image: *mut u8,
-            image_len: usize,
-        ) -> u32;
-    }
-}
-
 pub fn answer(packed: u32) -> Answer {
     Answer {
         kind: packed >> 16,
@@ -60,37 +23,101 @@ pub fn answer(packed: u32) -> Answer {
     }
 }
 
-// A slice's pointer is never null, is valid for its length, and `&mut` keeps the image apart from the plan: all that yard.h asks of a caller.
+/// The calls of an engine with the interface of yard.h, by the names of its C functions. A slice's pointer is never null, is valid for its length, and
+/// `&mut` keeps the image apart from the plan: all that yard.h asks of a caller.
+#[macro_export]
+macro_rules! engine {
+    ($check:literal, $start:literal, $offered:literal, $bits:literal, $try:literal, $settle:literal) => {
+        mod raw {
+            extern "C" {
+                #[link_name = $check]
+                pub fn check(plan: *const u8, plan_len: usize) -> u32;
+                #[link_name = $start]
+                pub fn start(
+                    plan: *const u8,
+                    plan_len: usize,
+                    image: *mut u8,
+                    image_len: usize,
+                ) -> u32;
+                #[link_name = $offered]
+                pub fn offered(
+                    plan: *const u8,
+                    plan_len: usize,
+                    image: *const u8,
+                    image_len: usize,
+                ) -> u32;
+                #[link_name = $bits]
+                pub fn offered_bits(
+                    plan: *const u8,
+                    plan_len: usize,
+                    image: *const u8,
+                    image_len: usize,
+                ) -> u64;
+                #[link_name = $try]
+                pub fn attempt(
+                    plan: *const u8,
+                    plan_len: usize,
+                    image: *mut u8,
+                    image_len: usize,
+                    interaction: u32,
+                ) -> u32;
+                #[link_name = $settle]
+                pub fn settle(
+                    plan: *const u8,
+                    plan_len: usize,
+                    image: *mut u8,
+                    image_len: usize,
+                ) -> u32;
+            }
+        }
 
-pub fn check(plan: &[u8]) -> Answer {
-    answer(unsafe { raw::yard_check(plan.as_ptr(), plan.len()) })
+        pub fn check(plan: &[u8]) -> $crate::Answer {
+            $crate::answer(unsafe { raw::check(plan.as_ptr(), plan.len()) })
+        }
+
+        pub fn start(plan: &[u8], image: &mut [u8]) -> $crate::Answer {
+            $crate::answer(unsafe {
+                raw::start(plan.as_ptr(), plan.len(), image.as_mut_ptr(), image.len())
+            })
+        }
+
+        pub fn offered(plan: &[u8], image: &[u8]) -> $crate::Answer {
+            $crate::answer(unsafe {
+                raw::offered(plan.as_ptr(), plan.len(), image.as_ptr(), image.len())
+            })
+        }
+
+        pub fn offered_bits(plan: &[u8], image: &[u8]) -> u64 {
+            unsafe { raw::offered_bits(plan.as_ptr(), plan.len(), image.as_ptr(), image.len()) }
+        }
+
+        /// A try; `try` is a word of Rust's own.
+        pub fn attempt(plan: &[u8], image: &mut [u8], interaction: u32) -> $crate::Answer {
+            let (plan_len, image_len) = (plan.len(), image.len());
+            $crate::answer(unsafe {
+                raw::attempt(
+                    plan.as_ptr(),
+                    plan_len,
+                    image.as_mut_ptr(),
+                    image_len,
+                    interaction,
+                )
+            })
+        }
+
+        pub fn settle(plan: &[u8], image: &mut [u8]) -> $crate::Answer {
+            $crate::answer(unsafe {
+                raw::settle(plan.as_ptr(), plan.len(), image.as_mut_ptr(), image.len())
+            })
+        }
+    };
 }
 
-pub fn start(plan: &[u8], image: &mut [u8]) -> Answer {
-    answer(unsafe { raw::yard_start(plan.as_ptr(), plan.len(), image.as_mut_ptr(), image.len()) })
-}
-
-pub fn offered(plan: &[u8], image: &[u8]) -> Answer {
-    answer(unsafe { raw::yard_offered(plan.as_ptr(), plan.len(), image.as_ptr(), image.len()) })
-}
-
-pub fn offered_bits(plan: &[u8], image: &[u8]) -> u64 {
-    unsafe { raw::yard_offered_bits(plan.as_ptr(), plan.len(), image.as_ptr(), image.len()) }
-}
-
-/// `yard_try`; `try` is a word of Rust's own.
-pub fn attempt(plan: &[u8], image: &mut [u8], interaction: u32) -> Answer {
-    answer(unsafe {
-        raw::yard_try(
-            plan.as_ptr(),
-            plan.len(),
-            image.as_mut_ptr(),
-            image.len(),
-            interaction,
-        )
-    })
-}
-
-pub fn settle(plan: &[u8], image: &mut [u8]) -> Answer {
-    answer(unsafe { raw::yard_settle(plan.as_ptr(), plan.len(), image.as_mut_ptr(), image.len()) })
-}
+engine!(
+    "yard_check",
+    "yard_start",
+    "yard_offered",
+    "yard_offered_bits",
+    "yard_try",
+    "yard_settle"
+);
