@@ -3,7 +3,7 @@
  *
  * An answer is one number: its kind times 65536 plus its own number (YARD_KIND, YARD_NUMBER).
  * A call reads inside the lengths given to it, ends, keeps nothing, and needs no test before it:
- * a refusal is an answer like any other and changes no byte.
+ * a refusal is an answer like any other and changes no byte. A lawful plan has at most 16128 bytes.
  *
  * The caller owes that each pointer is not null and valid for its length, that the image does not overlap
  * the plan, and that nobody else writes either during the call.
@@ -25,7 +25,7 @@ enum yard_image_place {
     YARD_IMAGE_COMPONENTS = 5,   /* 1 byte: how many components the lane has */
     YARD_IMAGE_VARIABLES = 6,    /* 1 byte: how many variables */
     YARD_IMAGE_INTERACTIONS = 7, /* 1 byte: how many interactions */
-    YARD_IMAGE_ORACLE = 8,       /* 1 byte: the oracle state */
+    YARD_IMAGE_ORACLE = 8,       /* 1 byte an oracle, 4 in all: its state, 0 for an added oracle that the plan lacks */
     YARD_IMAGE_PLAN_NUMBER = 12, /* 4 bytes: the number of the plan */
     YARD_IMAGE_MARKS = 16,       /* 8 bytes: bit i for interaction i, tried in this state and ending bad */
     YARD_IMAGE_LOCATIONS = 24,   /* 1 byte a component */
@@ -45,7 +45,7 @@ enum yard_kind {
 
 /* Why a call was refused. The first that applies, in the order of this list, is the answer. */
 enum yard_refusal {
-    YARD_BAD_HEAD = 1,        /* plan: fewer than 48 bytes, wrong letters, or bytes 42-47 not zero */
+    YARD_BAD_HEAD = 1,        /* plan: fewer than 48 bytes, wrong letters, or bytes 46-47 not zero */
     YARD_BAD_COUNT = 2,       /* plan: a count or the first oracle state outside its range */
     YARD_BAD_LAYOUT = 3,      /* plan: an offset or a length is not as the counts give */
     YARD_BAD_COMPONENT = 4,   /* plan: a component record */
@@ -54,10 +54,11 @@ enum yard_refusal {
     YARD_BAD_INTERACTION = 7, /* plan: an interaction record */
     YARD_BAD_RANK = 8,        /* plan: the ranks are not a strict order on the interactions */
     YARD_BAD_ORACLE = 9,      /* plan: a verdict, a next state, or a follower of a final verdict */
+    YARD_BAD_ADDED = 20,      /* plan: the same in an added oracle */
     YARD_BAD_CODE = 10,       /* plan: a span or a code word */
     YARD_BAD_LENGTH = 11,     /* image: not 312 bytes */
-    YARD_OTHER_PLAN = 12,     /* image: bytes 0-7 or 9-15 do not match form 1 and the plan */
-    YARD_BAD_STATE = 13,      /* image: oracle state, location or last port out of range or bad, or an unused entry filled */
+    YARD_OTHER_PLAN = 12,     /* image: bytes 0-7 or 12-15 do not match form 1 and the plan */
+    YARD_BAD_STATE = 13,      /* image: an oracle state, location or last port out of range or bad, or an unused entry filled */
     YARD_FALSE_MARK = 14,     /* image: a mark on a move that is not eligible or would end good */
     YARD_BAD_START = 15,      /* start: the starting state is bad */
     YARD_NO_SUCH_MOVE = 16,   /* try: the number is not an interaction of the plan */
@@ -69,22 +70,22 @@ enum yard_refusal {
 #define YARD_KIND(answer) ((uint32_t)(answer) >> 16)
 #define YARD_NUMBER(answer) ((uint32_t)(answer) & 0xffffu)
 
-/* Whether a plan is lawful: accepted, or refused with 1 to 10. */
+/* Whether a plan is lawful: accepted, or refused with 1 to 10 or 20. */
 uint32_t yard_check(const uint8_t *plan, size_t plan_len);
 
-/* Writes the image of a new lane: accepted, or refused with 1 to 11 or 15. What the image held does not matter. */
+/* Writes the image of a new lane: accepted, or refused with 1 to 11, 15 or 20. What the image held does not matter. */
 uint32_t yard_start(const uint8_t *plan, size_t plan_len, uint8_t *image, size_t image_len);
 
-/* Whether plan and image are lawful, so that yard_offered_bits has an answer: accepted, or refused with 1 to 14. */
+/* Whether plan and image are lawful, so that yard_offered_bits has an answer: accepted, or refused with 1 to 14 or 20. */
 uint32_t yard_offered(const uint8_t *plan, size_t plan_len, const uint8_t *image, size_t image_len);
 
 /* The moves on offer (enabled, not outranked, not marked): bit i for interaction i. 0 where the call is refused. */
 uint64_t yard_offered_bits(const uint8_t *plan, size_t plan_len, const uint8_t *image, size_t image_len);
 
-/* Tries one move: committed, cancelled, or refused with 1 to 14 or 16 to 19. */
+/* Tries one move: committed, cancelled, or refused with 1 to 14 or 16 to 20. */
 uint32_t yard_try(const uint8_t *plan, size_t plan_len, uint8_t *image, size_t image_len, uint32_t interaction);
 
-/* Settles on the lowest-numbered eligible move that ends good: committed, stalled, penned, or refused with 1 to 14. */
+/* Settles on the lowest-numbered eligible move that ends good: committed, stalled, penned, or refused with 1 to 14 or 20. */
 uint32_t yard_settle(const uint8_t *plan, size_t plan_len, uint8_t *image, size_t image_len);
 
 #ifdef __cplusplus

@@ -1,4 +1,4 @@
-/* The engine of 01 in plain C, written for speed: the yardstick for libyard.a. Stateless; each call checks plan and
+/* The engine of 01 and 02 in plain C, written for speed: the yardstick for libyard.a. Stateless; each call checks plan and
    image anew. Little-endian hosts only (fields are read by memcpy). */
 #include "baseline.h"
 #include <string.h>
@@ -7,14 +7,16 @@
 enum { ACCEPTED, COMMITTED, CANCELLED, STALLED, PENNED, REFUSED };
 
 static inline unsigned r16(const uint8_t *p) { uint16_t v; memcpy(&v, p, 2); return v; }
+static inline uint32_t r32(const uint8_t *p) { uint32_t v; memcpy(&v, p, 4); return v; }
 static inline uint64_t r64(const uint8_t *p) { uint64_t v; memcpy(&v, p, 8); return v; }
 static inline unsigned lowest(uint64_t m) { return (unsigned)__builtin_ctzll(m); }
 
 typedef struct {
   const uint8_t *p;
-  unsigned C, V, T, I, K, S, W, first, row;
+  unsigned C, V, T, I, K, S, W, first, row, A; /* A: added oracles */
   const uint8_t *comp, *var, *trans, *inter, *rank, *prop, *oracle, *code;
-  uint64_t owned[16]; /* the variables of each component */
+  const uint8_t *added[3]; /* the tables of the added oracles */
+  uint64_t owned[16];      /* the variables of each component */
 } Plan;
 
 /* What a move changes, laid out as image bytes 24 to 311. */
@@ -37,25 +39,43 @@ static inline Parts parts(const uint8_t *inter) { return (Parts){{~r64(inter), ~
     body \
   } } while (0)
 
-/* ---- the plan's check: 1 to 10 ---- */
+/* ---- the plan's check: 1 to 10, 20 ---- */
 
 static inline int head_ok(const uint8_t *p, size_t len) {
-  return len >= 48 && !memcmp(p, "PLAN", 4) && !(r64(p + 40) >> 16);
+  return len >= 48 && !memcmp(p, "PLAN", 4) && !r16(p + 46);
+}
+
+/* What added oracles need is kept out of the way of plans without them. */
+#define ASIDE static __attribute__((noinline, cold))
+#define ADDED(x) __builtin_expect((x)->A != 0, 0)
+
+ASIDE int added_counts_ok(const uint8_t *p) {
+  unsigned added = p[42];
+  for (unsigned k = 0; k < 3; k++) if (k < added ? p[43 + k] - 1u >= 32 : p[43 + k]) return 0;
+  return added <= 3;
 }
 
 static inline int counts_ok(Plan *x, const uint8_t *p) {
   x->p = p;
   x->C = r16(p + 10); x->V = r16(p + 12); x->T = r16(p + 14); x->I = r16(p + 16);
-  x->K = r16(p + 18); x->S = r16(p + 20); x->first = r16(p + 22); x->W = r16(p + 24);
+  x->K = r16(p + 18); x->S = r16(p + 20); x->first = r16(p + 22); x->W = r16(p + 24); x->A = p[42];
   return x->C - 1 < 16 && x->V <= 64 && x->T <= 256 && x->I - 1 < 64 && x->K <= 4 && x->S - 1 < 32 &&
-         x->first < x->S && x->W <= 4096;
+         x->first < x->S && x->W <= 4096 && (__builtin_expect(!r32(p + 42), 1) || added_counts_ok(p));
+}
+
+/* Finds the added tables, which begin at an offset; answers their end. */
+ASIDE unsigned added_tables(Plan *x, unsigned at) {
+  for (unsigned k = 0; k < x->A; k++) { x->added[k] = x->p + at; at += x->row * x->p[43 + k]; }
+  return at;
 }
 
 static inline int layout_ok(Plan *x, size_t len) {
   const uint8_t *p = x->p;
   x->row = 1 + (1u << x->K);
   unsigned s0 = 48, s1 = s0 + 4 * x->C, s2 = s1 + 8 * x->V, s3 = s2 + 12 * x->T, s4 = s3 + 24 * x->I;
-  unsigned s5 = s4 + 8 * x->I, s6 = s5 + 4 * x->K, s7 = s6 + x->row * x->S, end = s7 + 2 * x->W;
+  unsigned s5 = s4 + 8 * x->I, s6 = s5 + 4 * x->K, s7 = s6 + x->row * x->S;
+  if (ADDED(x)) s7 = added_tables(x, s7);
+  unsigned end = s7 + 2 * x->W;
   x->comp = p + s0; x->var = p + s1; x->trans = p + s2; x->inter = p + s3;
   x->rank = p + s4; x->prop = p + s5; x->oracle = p + s6; x->code = p + s7;
   return r16(p + 26) == s0 && r16(p + 28) == s1 && r16(p + 30) == s2 && r16(p + 32) == s3 && r16(p + 34) == s4 &&
@@ -112,14 +132,20 @@ static inline int ranks_ok(const Plan *x) {
   return 1;
 }
 
-static inline int oracle_ok(const Plan *x) {
-  for (const uint8_t *r = x->oracle; r < x->code; r += x->row) {
+static inline int oracle_ok(const Plan *x, const uint8_t *table, unsigned states) {
+  const uint8_t *end = table + x->row * states;
+  for (const uint8_t *r = table; r < end; r += x->row) {
     if (r[0] == 1 || r[0] > 3) return 0;
     for (unsigned a = 1; a < x->row; a++) {
-      if (r[a] >= x->S) return 0;
-      if (r[0] != 2 && x->oracle[x->row * r[a]] != r[0]) return 0;
+      if (r[a] >= states) return 0;
+      if (r[0] != 2 && table[x->row * r[a]] != r[0]) return 0;
     }
   }
+  return 1;
+}
+
+static inline int added_ok(const Plan *x) {
+  for (unsigned k = 0; k < x->A; k++) if (!oracle_ok(x, x->added[k], x->p[43 + k])) return 0;
   return 1;
 }
 
@@ -176,7 +202,8 @@ static unsigned check(Plan *x, const uint8_t *p, size_t len) {
   if (!transitions_ok(x)) return 6;
   if (!interactions_ok(x)) return 7;
   if (!ranks_ok(x)) return 8;
-  if (!oracle_ok(x)) return 9;
+  if (!oracle_ok(x, x->oracle, x->S)) return 9;
+  if (ADDED(x) && !added_ok(x)) return 20;
   if (!code_ok(x)) return 10;
   return 0;
 }
@@ -247,16 +274,37 @@ static void moves(const Plan *x, const Lane *lane, Moves *m) {
   m->candidates = standing;
 }
 
-static inline unsigned judged(const Plan *x, unsigned q, Lane *lane) {
-  unsigned letter = 0;
-  for (unsigned k = 0; k < x->K; k++) letter |= (unsigned)(run(x, x->prop + 4 * k, lane) != 0) << k;
-  return x->oracle[x->row * q + 1 + letter];
+/* The states of the four oracles, laid out as image bytes 8 to 11: the first in the low byte. */
+typedef uint32_t States;
+
+/* The state of added oracle k. */
+static inline unsigned added_state(States q, unsigned k) { return q >> (8 * k + 8) & 255; }
+
+static inline States added_next(const Plan *x, States q, unsigned letter) {
+  States next = 0;
+  for (unsigned k = 0; k < x->A; k++)
+    next |= (States)x->added[k][x->row * added_state(q, k) + 1 + letter] << (8 * k + 8);
+  return next;
 }
 
-static inline int good(const Plan *x, unsigned q) { return x->oracle[x->row * q] != 0; }
+static inline int added_good(const Plan *x, States q) {
+  for (unsigned k = 0; k < x->A; k++) if (!x->added[k][x->row * added_state(q, k)]) return 0;
+  return 1;
+}
 
-/* The lane after enabled move i, and the oracle state after its event. */
-static unsigned fire(const Plan *x, const Lane *old, unsigned q, const Moves *m, unsigned i, Lane *new) {
+static inline States judged(const Plan *x, States q, Lane *lane) {
+  unsigned letter = 0;
+  for (unsigned k = 0; k < x->K; k++) letter |= (unsigned)(run(x, x->prop + 4 * k, lane) != 0) << k;
+  States next = x->oracle[x->row * (q & 255) + 1 + letter];
+  return ADDED(x) ? next | added_next(x, q, letter) : next;
+}
+
+static inline int good(const Plan *x, States q) {
+  return x->oracle[x->row * (q & 255)] != 0 && (!ADDED(x) || added_good(x, q));
+}
+
+/* The lane after enabled move i, and the oracles' states after its event. */
+static States fire(const Plan *x, const Lane *old, States q, const Moves *m, unsigned i, Lane *new) {
   const uint8_t *r = x->inter + 24 * i;
   *new = *old;
   if (r16(r + 22)) run(x, r + 20, new);
@@ -274,23 +322,28 @@ static unsigned fire(const Plan *x, const Lane *old, unsigned q, const Moves *m,
 static void put_head(const Plan *x, uint8_t *b) {
   memcpy(b, "YARD", 4);
   b[4] = 1; b[5] = (uint8_t)x->C; b[6] = (uint8_t)x->V; b[7] = (uint8_t)x->I;
-  b[9] = b[10] = b[11] = 0;
   memcpy(b + 12, x->p + 4, 4);
 }
 
-static inline void commit(uint8_t *b, unsigned q, const Lane *lane) {
-  b[8] = (uint8_t)q;
+static inline void commit(uint8_t *b, States q, const Lane *lane) {
+  memcpy(b + 8, &q, 4);
   memset(b + 16, 0, 8);
   memcpy(b + 24, lane, 288);
 }
 
 static inline int head_matches(const Plan *x, const uint8_t *b) {
-  return !memcmp(b, "YARD", 4) && b[4] == 1 && b[5] == x->C && b[6] == x->V && b[7] == x->I && !b[9] && !b[10] &&
-         !b[11] && !memcmp(b + 12, x->p + 4, 4);
+  return !memcmp(b, "YARD", 4) && b[4] == 1 && b[5] == x->C && b[6] == x->V && b[7] == x->I &&
+         !memcmp(b + 12, x->p + 4, 4);
 }
 
-static inline int state_ok(const Plan *x, unsigned q, const Lane *lane) {
-  if (q >= x->S || !good(x, q)) return 0;
+static inline int oracles_ok(const Plan *x, States q) {
+  if ((q & 255) >= x->S || (uint64_t)q >> (8 * x->A + 8)) return 0;
+  for (unsigned k = 0; k < x->A; k++) if (added_state(q, k) >= x->p[43 + k]) return 0;
+  return good(x, q);
+}
+
+static inline int state_ok(const Plan *x, States q, const Lane *lane) {
+  if (!oracles_ok(x, q)) return 0;
   for (unsigned c = 0; c < x->C; c++) {
     const uint8_t *r = x->comp + 4 * c;
     if (lane->loc[c] >= r[0] || (lane->last[c] != 255 && lane->last[c] >= r[2])) return 0;
@@ -306,7 +359,7 @@ typedef struct {
   Plan plan;
   Lane lane;
   Moves moves;
-  unsigned oracle;
+  States oracles;
   uint64_t marks;
 } Site;
 
@@ -314,20 +367,20 @@ static int marks_ok(const Site *s) {
   Lane new;
   if (s->marks & ~s->moves.candidates) return 0;
   for (uint64_t k = s->marks; k; k &= k - 1)
-    if (good(&s->plan, fire(&s->plan, &s->lane, s->oracle, &s->moves, lowest(k), &new))) return 0;
+    if (good(&s->plan, fire(&s->plan, &s->lane, s->oracles, &s->moves, lowest(k), &new))) return 0;
   return 1;
 }
 
-/* Plan and image in, refusals 1 to 14. */
+/* Plan and image in, refusals 1 to 14 and 20. */
 static unsigned enter(Site *s, const uint8_t *plan, size_t plan_len, const uint8_t *b, size_t image_len) {
   unsigned n = check(&s->plan, plan, plan_len);
   if (n) return n;
   if (image_len != 312) return 11;
   if (!head_matches(&s->plan, b)) return 12;
-  s->oracle = b[8];
+  s->oracles = r32(b + 8);
   s->marks = r64(b + 16);
   memcpy(&s->lane, b + 24, 288);
-  if (!state_ok(&s->plan, s->oracle, &s->lane)) return 13;
+  if (!state_ok(&s->plan, s->oracles, &s->lane)) return 13;
   moves(&s->plan, &s->lane, &s->moves);
   return marks_ok(s) ? 0 : 14;
 }
@@ -350,7 +403,7 @@ uint32_t base_start(const uint8_t *plan, size_t plan_len, uint8_t *image, size_t
   memset(lane.last, 255, 16);
   for (unsigned c = 0; c < x.C; c++) lane.loc[c] = x.comp[4 * c + 1];
   for (unsigned v = 0; v < x.V; v++) memcpy(&lane.val[v], x.var + 8 * v + 4, 4);
-  unsigned q = judged(&x, x.first, &lane);
+  States q = judged(&x, x.first, &lane);
   if (!good(&x, q)) return ANSWER(REFUSED, 15);
   put_head(&x, image);
   commit(image, q, &lane);
@@ -378,7 +431,7 @@ uint32_t base_try(const uint8_t *plan, size_t plan_len, uint8_t *image, size_t i
   if (!(s.moves.enabled >> i & 1)) return ANSWER(REFUSED, 17);
   if (!(s.moves.candidates >> i & 1)) return ANSWER(REFUSED, 18);
   if (s.marks >> i & 1) return ANSWER(REFUSED, 19);
-  unsigned q = fire(&s.plan, &s.lane, s.oracle, &s.moves, i, &new);
+  States q = fire(&s.plan, &s.lane, s.oracles, &s.moves, i, &new);
   if (good(&s.plan, q)) { commit(image, q, &new); return ANSWER(COMMITTED, i); }
   s.marks |= 1ull << i;
   memcpy(image + 16, &s.marks, 8);
@@ -391,7 +444,8 @@ uint32_t base_settle(const uint8_t *plan, size_t plan_len, uint8_t *image, size_
   unsigned n = enter(&s, plan, plan_len, image, image_len);
   if (n) return ANSWER(REFUSED, n);
   for (uint64_t k = s.moves.candidates & ~s.marks; k; k &= k - 1) {
-    unsigned i = lowest(k), q = fire(&s.plan, &s.lane, s.oracle, &s.moves, i, &new);
+    unsigned i = lowest(k);
+    States q = fire(&s.plan, &s.lane, s.oracles, &s.moves, i, &new);
     if (good(&s.plan, q)) { commit(image, q, &new); return ANSWER(COMMITTED, i); }
   }
   if (!s.moves.enabled) return ANSWER(STALLED, 0);

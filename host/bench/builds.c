@@ -1,6 +1,7 @@
 /* Two builds of the library, and a second copy of the old one, timed in turn in one run, best of rounds.
    What copy / old differs from 1 by is placement and noise; new / old is told from it only beyond that,
    and only if it is so again: equal builds have a cell above the greatest copy / old in about every second run.
+   Plans that the old build refuses are left out.
    builds ROUNDS PLAN... */
 #define _GNU_SOURCE
 #include "scenes.h"
@@ -45,7 +46,19 @@ static void print_above(double limit, int argc, char **argv) {
   if (!count) printf("  none\n");
 }
 
+/* Takes the plans that the old build refuses out of the arguments; gives how many arguments are left. */
+static int leave_out(int argc, char **argv) {
+  int left = 2;
+  for (int k = 2; k < argc; k++) {
+    load(argv[k], &plans[0]);
+    if (old_check(plans[0].bytes, plans[0].len)) printf("%s: refused by the old build\n", basename(argv[k]));
+    else argv[left++] = argv[k];
+  }
+  return argc < 2 ? argc : left;
+}
+
 int main(int argc, char **argv) {
+  argc = leave_out(argc, argv);
   int rounds = measure(engines, 3, argc, argv);
   printf("new / old, copy / old, best of %d rounds.\n\n", rounds);
   print_table(argc, argv, print_ratios);

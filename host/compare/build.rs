@@ -1,4 +1,4 @@
-// Makes libbaseline.a of host/bench's C engine, and links it.
+// Makes libbaseline.a of host/bench's C engine, and links it; links the older library's object, $OLD_OBJECT, into `same`.
 use std::env;
 use std::path::{Path, PathBuf};
 use std::process::Command;
@@ -18,6 +18,11 @@ fn main() {
     }
     println!("cargo:rustc-link-search=native={}", out.display());
     println!("cargo:rustc-link-lib=static=baseline");
+    println!("cargo:rerun-if-env-changed=OLD_OBJECT");
+    if let Ok(object) = env::var("OLD_OBJECT") {
+        println!("cargo:rerun-if-changed={object}");
+        println!("cargo:rustc-link-arg-bin=same={object}");
+    }
 }
 
 fn run(command: &mut Command) {

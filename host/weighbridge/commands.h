@@ -6,7 +6,7 @@
 
 #include <stdbool.h>
 
-enum { PLAN_BYTES = 14496 }; /* the longest lawful plan */
+enum { PLAN_BYTES = 16128 }; /* the longest lawful plan */
 
 struct bridge {
     uint8_t plan[PLAN_BYTES + 1]; /* with one byte more, the engine refuses a longer file as it would the whole */

@@ -31,6 +31,7 @@ static const char *const refusals[] = {
     "the move is not enabled now (choose another)",
     "a move of higher rank is enabled (choose another)",
     "the move was tried in this state and ends badly (choose another)",
+    "an added oracle of the plan is faulty (ask the planner)",
 };
 
 static void report_refusal(uint32_t number)

@@ -12,10 +12,10 @@ use lib.Dec.{ltb, eqb}
 use lib.IntN.{ℤ, pos}
 use Rattle.semantics.specs.Bytes.{allOf}
 use Rattle.semantics.specs.Signed.{wrap}
-use Rattle.semantics.specs.Plan.{Plan, components, variables, locations, ports, owner, takesPart}
+use Rattle.semantics.specs.Plan.{Plan, maxOracles, components, variables, locations, ports, owner, takesPart}
 use Rattle.semantics.specs.Code.{State, ownedBy, sharedIn}
 use Rattle.semantics.specs.Rules.{variableOk, planRefusal}
-use Rattle.semantics.specs.Move.{Configuration, oracleInRange}
+use Rattle.semantics.specs.Move.{Configuration, oraclesInRange}
 use Rattle.semantics.specs.Image.{locationOk, lastPortOk}
 use Rattle.bip.specs.Steps.{Local, restrictedTo, variableOf, restricted, component, Q, variableIn}
 use Rattle.semantics.proofs.Basics.{bool-cases, and-both, both-and, or-cases, or-left, or-right, each, ltb-true, ltb-false, lt-ltb, le-ltb, eqb-true, eqb-same, eq-eqb, length-table, getD-table}
@@ -160,10 +160,11 @@ state-port p s h c m =
           | inr e ↦ or-right (eqb (getD (s .lastPorts) c 0) 255) (ltb (getD (s .lastPorts) c 0) (ports p c)) (lt-ltb _ _ e)
         ]
 
--- 002 definition 7: a state of Q with a state of the oracle is a configuration as the engine holds them
-pub sound-of : (p : Plan) (q : State) (θ : ℕ) → Q p q → oracleInRange p θ ≡ true → Sound p (record { state = q; oracle = θ })
-sound-of p q θ h l =
+-- 002 definition 7: a state of Q with a state of the oracles is a configuration as the engine holds them
+pub sound-of : (p : Plan) (q : State) (θ : List ℕ) → Q p q → length θ ≡ maxOracles → oraclesInRange p θ ≡ true → Sound p (record { state = q; oracles = θ })
+sound-of p q θ h four l =
     record {
+      oracles-4 = four;
       in-range = l;
       locations-16 = h .locations-long;
       ports-16 = h .ports-long;

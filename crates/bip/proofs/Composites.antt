@@ -9,7 +9,7 @@ use lib.ListN.{length, getD}
 use lib.Dec.{ltb}
 use lib.IntN.{ℤ, pos}
 use Rattle.semantics.specs.Bytes.{implies, lowest}
-use Rattle.semantics.specs.Plan.{Plan, components, variables, transitions, interactions, firstOracle, actionOf, portIn, takesPart, transferOf, owner}
+use Rattle.semantics.specs.Plan.{Plan, components, variables, transitions, interactions, startStates, actionOf, portIn, takesPart, transferOf, owner}
 use Rattle.semantics.specs.Code.{State, valued, acted, asUpdate, spanOk}
 use Rattle.semantics.specs.Rules.{planRefusal}
 use Rattle.semantics.specs.Move.{Configuration, ready, chosen, chosenIn, enabled, actedBelow, fired, judged, after}
@@ -17,6 +17,7 @@ use Rattle.bip.specs.Steps.{Local, variableOf, restricted, Able, Takes, 
 use Rattle.semantics.proofs.Basics.{bool-cases, absurd-bool, and-both, implies-yes, each, all-of, lt-ltb, below-suc, every-all, ltb-true, lowest-is, lowest-unique, lowest-none}
 use Rattle.semantics.proofs.AcceptedPlan.{accepted-plan}
 use Rattle.semantics.proofs.OneMove.{uses, uses-lowest, part-moves, other-stays}
+use Rattle.semantics.proofs.Oracles.{start-in-range}
 use Rattle.semantics.proofs.Sound.{sound-after}
 use Rattle.semantics.proofs.Commute.{Agree, local, frame, acted-long}
 use Rattle.bip.proofs.Components.{counted, owned, apart, few-owned, restricted-long, restricted-other, restricted-is, restricted-agrees, same-restricted, state-of, sound-of, same-component, state-is-tuple}
@@ -123,12 +124,12 @@ module _ (p : Plan) (z : planRefusal p ≡ 0) (q : State) (h : Q p q) where
           (λ v o. (fired-own c k v o ∙ rw t refl) ∙ frame p asUpdate (variableIn p i) (transferOf p i) (shared-transfer p z i l) q v (not-shared c v t o))
 
       begun : Configuration
-      begun = record { state = q; oracle = firstOracle p }
+      begun = record { state = q; oracles = startStates p }
 
       -- 002 definition 7: the engine's move ends in a state of Q
       pub fired-state : Q p (fired p q i)
       unfolding after judged begun
-      fired-state = state-of p z (after p begun i) (sound-after p (accepted-plan p z) begun (sound-of p q (firstOracle p) h (counted p z .first)) i l e)
+      fired-state = state-of p z (after p begun i) (sound-after p (accepted-plan p z) begun (sound-of p q (startStates p) h refl (start-in-range p (accepted-plan p z))) i l e)
 
       low : (c : ℕ) → c < components p → c < 16
       low c k = le-trans k (counted p z .components≤)

@@ -4,13 +4,14 @@ use mathlib.Core.Path.{_≡_, refl, sym, ap, _∙_, subst}
 use mathlib.Core.Logic.{_⊎_, inl, inr}
 use Prim.Native.Nat.{ℕ, zero}
 use mathlib.Core.List.{List, [], _∷_}
-use Rattle.semantics.specs.Plan.{Plan, next}
+use Rattle.semantics.specs.Plan.{Plan}
 use Rattle.semantics.specs.Code.{State}
-use Rattle.semantics.specs.Move.{Configuration}
+use Rattle.semantics.specs.Move.{Configuration, nextStates}
 use Rattle.bip.specs.Steps.{Path, here, further, Trace, still, onward, endOf}
-use Rattle.bip.specs.Monitor.{Letter, Satisfies, Reads, reads, Allows, Label, did, ε, System, Monitored, rule-2, rule-3, MonitoredStep, Begins, erased, stutter-free, Shows, ended, shown, Enforced, Simulates}
-use Rattle.bip.proofs.Events.{event-once, reads-is}
+use Rattle.bip.specs.Monitor.{Letter, Satisfies, Reads, Allows, Label, did, ε, System, Monitored, rule-2, rule-3, MonitoredStep, Begins, erased, stutter-free, Shows, ended, shown, Enforced, Simulates}
+use Rattle.bip.proofs.Events.{event-once}
 use Rattle.bip.proofs.MonitorRules.{did-not-ε, commits-means}
+use Rattle.bip.proofs.OracleRules.{reads-is, reads-next}
 
 -- ---- simulation
 
@@ -38,22 +39,22 @@ simulates p system c =
 
 -- ---- traces
 
--- an event of the state that the oracle was shown leads where the one shown did
-pub reads-other : (p : Plan) (q : State) {θ θ' : ℕ} (e e' : Letter p) → Satisfies p q e → Satisfies p q e' → Reads p θ e θ' → Reads p θ e' θ'
+-- an event of the state that the oracles were shown leads where the one shown did
+pub reads-other : (p : Plan) (q : State) {θ θ' : List ℕ} (e e' : Letter p) → Satisfies p q e → Satisfies p q e' → Reads p θ e θ' → Reads p θ e' θ'
 reads-other p q {θ} {θ'} e e' h h' r =
-    subst (λ (x : ℕ). Reads p θ e' x) (ap (next p θ) (event-once p q e' h' ∙ sym (event-once p q e h)) ∙ sym (reads-is r)) reads
+    subst (λ (x : List ℕ). Reads p θ e' x) (ap (nextStates p θ) (event-once p q e' h' ∙ sym (event-once p q e h)) ∙ sym (reads-is r)) (reads-next p θ e')
 
--- what a trace of the composition is, of the system and the oracle
+-- what a trace of the composition is, of the system and the oracles
 record Followed (p : Plan) (system : System) (c : Configuration) (σ : List (Label × Configuration)) : Type 0 where
   events : (es : List (Letter p)) × Shows p (stutter-free (erased σ)) es
-  reading : (es : List (Letter p)) → Shows p (stutter-free (erased σ)) es → Path (Reads p) (c .oracle) es (endOf c σ .oracle)
-  allowed : Allows p (endOf c σ .oracle)
+  reading : (es : List (Letter p)) → Shows p (stutter-free (erased σ)) es → Path (Reads p) (c .oracles) es (endOf c σ .oracles)
+  allowed : Allows p (endOf c σ .oracles)
   of-system : Trace system (c .state) (stutter-free (erased σ))
   ends : endOf (c .state) (stutter-free (erased σ)) ≡ endOf c σ .state
 
 module _ {p : Plan} {system : System} where
-  followed-step : {i : ℕ} {c d : Configuration} {l : Label} {σ : List (Label × Configuration)} → Monitored p system i c l d → Allows p (c .oracle)
-      → (Allows p (d .oracle) → Followed p system d σ) → Followed p system c ((l, d) ∷ σ)
+  followed-step : {i : ℕ} {c d : Configuration} {l : Label} {σ : List (Label × Configuration)} → Monitored p system i c l d → Allows p (c .oracles)
+      → (Allows p (d .oracles) → Followed p system d σ) → Followed p system c ((l, d) ∷ σ)
   unfolding erased stutter-free endOf
   followed-step {i} {σ} (rule-2 {q} {q'} {θ} {θ'} {e} s h a b) w k =
       let m = commits-means b in
@@ -66,29 +67,29 @@ module _ {p : Plan} {system : System} where
         ends = f .ends;
       }
     where
-      read : Followed p system (record { state = q'; oracle = θ' }) σ → Reads p θ e θ' → (es : List (Letter p)) → Shows p ((i, q') ∷ stutter-free (erased σ)) es
-          → Path (Reads p) θ es (endOf (record { state = q'; oracle = θ' }) σ .oracle)
+      read : Followed p system (record { state = q'; oracles = θ' }) σ → Reads p θ e θ' → (es : List (Letter p)) → Shows p ((i, q') ∷ stutter-free (erased σ)) es
+          → Path (Reads p) θ es (endOf (record { state = q'; oracles = θ' }) σ .oracles)
       read f r es (shown {e = e'} g later) = further (reads-other p q' e e' h g r) (f .reading _ later)
   followed-step (rule-3 s h a b) w k = let f = k w in
       record { events = f .events; reading = f .reading; allowed = f .allowed; of-system = f .of-system; ends = f .ends }
 
-  followed : {c : Configuration} {σ : List (Label × Configuration)} → Trace (MonitoredStep p system) c σ → Allows p (c .oracle) → Followed p system c σ
+  followed : {c : Configuration} {σ : List (Label × Configuration)} → Trace (MonitoredStep p system) c σ → Allows p (c .oracles) → Followed p system c σ
   unfolding erased stutter-free endOf
   followed still w = record { events = ([], ended); reading = none; allowed = w; of-system = still; ends = refl }
     where
-      none : {θ : ℕ} (es : List (Letter p)) → Shows p [] es → Path (Reads p) θ es θ
+      none : {θ : List ℕ} (es : List (Letter p)) → Shows p [] es → Path (Reads p) θ es θ
       none es ended = here
   followed (onward m r) w = followed-step (m .1) w (λ v. followed r v)
 
 -- 002 corollary 1: along any trace of the composition from a good judged beginning the events stay in Π, and the stutter-free trace is one of the
 -- system
-pub enforced : (p : Plan) (system : System) (c : Configuration) (begins : Begins p c) → Allows p (c .oracle) → (σ : List (Label × Configuration))
+pub enforced : (p : Plan) (system : System) (c : Configuration) (begins : Begins p c) → Allows p (c .oracles) → (σ : List (Label × Configuration))
     → Trace (MonitoredStep p system) c σ → Enforced p system c (begins .first-event) σ
 enforced p system c begins w σ t =
     let f = followed t w in
     record {
       events = f .events;
-      in-property = λ es h. (endOf c σ .oracle, further (begins .judged-first) (f .reading es h), f .allowed);
+      in-property = λ es h. (endOf c σ .oracles, further (begins .judged-first) (f .reading es h), f .allowed);
       of-system = f .of-system;
       ends = f .ends;
     }

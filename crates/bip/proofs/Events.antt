@@ -1,4 +1,4 @@
--- Events and verdicts: every state has one event, and 01's good and bad are the oracle's verdicts (000 section 4.3, 002 definition 14).
+-- Events and verdicts: every state has one event, and 01's good and bad are the oracles' verdicts (000 section 4.3, 002 definition 14).
 use mathlib.Core.Path.{_≡_, refl, sym, ap, _∙_, subst}
 use mathlib.Core.Logic.{_↔_, inl, inr}
 use Prim.Native.Nat.{ℕ, _<_}
@@ -8,18 +8,18 @@ use lib.Seq.{ext-getD}
 use lib.Dec.{ltb}
 use lib.IntN.{ℤ, pos}
 use Rattle.semantics.specs.Bytes.{bit, table}
-use Rattle.semantics.specs.Plan.{Plan, components, variables, propositions, firstOracle, propositionOf, startLocation, startValue, next}
+use Rattle.semantics.specs.Plan.{Plan, components, variables, propositions, startStates, propositionOf, startLocation, startValue}
 use Rattle.semantics.specs.Code.{State, guardHolds}
 use Rattle.semantics.specs.Rules.{planRefusal}
-use Rattle.semantics.specs.Move.{Configuration, letter, judged, oracleInRange, oracleGood, good, initialState, initial}
+use Rattle.semantics.specs.Move.{Configuration, letter, nextStates, judged, oraclesInRange, oraclesGood, good, initialState, initial}
 use Rattle.bip.specs.Steps.{Init}
-use Rattle.bip.specs.Monitor.{Letter, Satisfies, Reads, reads, Allows, Forbids, Begins}
+use Rattle.bip.specs.Monitor.{Letter, Satisfies, Allows, Forbids, Begins}
 use Rattle.semantics.proofs.Basics.{bool-cases, absurd-bool, not-no, eqb-true, eq-eqb, ltb-true, ltb-false, lt-ltb, length-table, getD-table}
 use Rattle.semantics.proofs.Masks.{bit-mask, mask-same, mask-bits}
 use Rattle.semantics.proofs.AcceptedPlan.{accepted-plan, Counts, counts-of}
 use Rattle.semantics.proofs.Sound.{letter-lt, sound-initial}
 use Rattle.bip.proofs.Components.{state-of}
-use Rattle.bip.proofs.SafetyProperty.{allows-or-forbids, not-both}
+use Rattle.bip.proofs.OracleRules.{reads-is, reads-next, verdict-exactly, not-both, allows-or-forbids}
 
 -- ---- events
 
@@ -36,21 +36,18 @@ event-once p q e s =
 
 -- ---- verdicts
 
--- 002 definition 14: the oracle's transition function
-pub reads-is : {p : Plan} {θ θ' : ℕ} {e : Letter p} → Reads p θ e θ' → θ' ≡ next p θ (e .0)
-reads-is reads = refl
-
--- 01's bad is the oracle's verdict ⊥
-pub bad-forbids : (p : Plan) (c : Configuration) → good p c ≡ false ↔ Forbids p (c .oracle)
-unfolding good oracleGood
-bad-forbids p c = (λ e. eqb-true _ _ (not-no _ e), λ f. ap not (eq-eqb _ _ f))
+-- 01's bad is the oracles' verdict ⊥
+pub bad-forbids : (p : Plan) (c : Configuration) → good p c ≡ false ↔ Forbids p (c .oracles)
+unfolding good oraclesGood
+bad-forbids p c =
+    let verdict = verdict-exactly p (c .oracles) 0 in (λ e. verdict .1 (sym (eqb-true _ _ (not-no _ e))), λ f. ap not (eq-eqb _ _ (sym (verdict .0 f))))
 
 module _ (p : Plan) (ok : planRefusal p ≡ 0) where
-  -- 01's good is the oracle's verdict ⊤ or ⊤_c
-  pub good-allows : (c : Configuration) → oracleInRange p (c .oracle) ≡ true → good p c ≡ true ↔ Allows p (c .oracle)
+  -- 01's good is the oracles' verdict ⊤ or ⊤_c
+  pub good-allows : (c : Configuration) → oraclesInRange p (c .oracles) ≡ true → good p c ≡ true ↔ Allows p (c .oracles)
   good-allows c l = (
-    (λ g. elim (allows-or-forbids p ok (c .oracle) l) [ inl a ↦ a | inr f ↦ absurd-bool g (bad-forbids p c .1 f) ]),
-    (λ a. bool-cases (good p c) (λ g. g) (λ g. absurd (not-both p (c .oracle) a (bad-forbids p c .0 g)))),
+    (λ g. elim (allows-or-forbids p ok (c .oracles) l) [ inl a ↦ a | inr f ↦ absurd-bool g (bad-forbids p c .1 f) ]),
+    (λ a. bool-cases (good p c) (λ g. g) (λ g. absurd (not-both p (c .oracles) a (bad-forbids p c .0 g)))),
   )
 
   -- 000 section 5.5, remark 2: the engine's starting configuration is a judged beginning
@@ -58,6 +55,7 @@ module _ (p : Plan) (ok : planRefusal p ≡ 0) where
   unfolding initial judged initialState
   initial-begins =
       let counts : Counts p = counts-of p (accepted-plan p ok .counts) in
+      let event : Letter p = (letter p (initialState p), letter-lt p (initialState p)) in
       record {
         initial-state =
             record {
@@ -66,9 +64,9 @@ module _ (p : Plan) (ok : planRefusal p ≡ 0) where
               silent = λ c l. getD-table {A = ℕ} 16 (λ k. 255) 0 c (le-trans l (counts .components≤));
               holds = λ v l. getD-table 64 (λ k. cond (ltb k (variables p)) (startValue p k) (pos 0)) (pos 0) v (le-trans l (counts .variables≤)) ∙ rw (lt-ltb v (variables p) l) refl;
             };
-        first-event = (letter p (initialState p), letter-lt p (initialState p));
+        first-event = event;
         observed = event-of p (initialState p);
-        judged-first = reads;
+        judged-first = reads-next p (startStates p) event;
       }
 
 -- ---- the one beginning
@@ -113,6 +111,6 @@ pub begins-initial : (p : Plan) (c : Configuration) → Begins p c → c ≡ ini
 unfolding initial judged
 begins-initial p c h =
     let s : c .state ≡ initialState p = one-initial-state p (c .state) (h .initial-state) in
-    let o : c .oracle ≡ next p (firstOracle p) (letter p (initialState p))
-    = reads-is (h .judged-first) ∙ ap (next p (firstOracle p)) (event-once p (c .state) (h .first-event) (h .observed) ∙ ap (letter p) s) in
-    λ i. record { state = s i; oracle = o i }
+    let o : c .oracles ≡ nextStates p (startStates p) (letter p (initialState p))
+    = reads-is (h .judged-first) ∙ ap (nextStates p (startStates p)) (event-once p (c .state) (h .first-event) (h .observed) ∙ ap (letter p) s) in
+    λ i. record { state = s i; oracles = o i }

@@ -1,4 +1,4 @@
--- What a call knows of its image where none of 1 to 14 applies, and what it leaves.
+-- What a call knows of its image where neither it nor the plan is refused, and what it leaves.
 use mathlib.Core.Path.{_≡_, ap, _∙_}
 use Prim.Native.Nat.{ℕ, _<_}
 use native.Mathlib.Nat.{le-trans}

@@ -4,7 +4,11 @@ pub mod Disabling
 pub mod Enforcement
 pub mod Events
 pub mod KnownImage
+pub mod Meet
 pub mod MonitorRules
+pub mod OracleRules
+pub mod OracleTables
+pub mod Paths
 pub mod Priorities
 pub mod Reading
 pub mod Runs

@@ -1,17 +1,17 @@
--- The runs of 01 are the runs of the ranked system, by 01's choice, whose events stay in the oracle's property (001 definition 12, 002 corollary 1).
+-- The runs of 01 are the runs of the ranked system, by 01's choice, whose events stay in the oracles' property (001 definition 12, 002 corollary 1).
 use mathlib.Core.Path.{_≡_, refl, sym, ap, _∙_, subst}
 use mathlib.Core.Logic.{_↔_}
 use Prim.Native.Nat.{ℕ, _<_}
 use mathlib.Core.Bool.{true}
 use mathlib.Core.List.{List, [], _∷_, _++_, append-assoc}
-use Rattle.semantics.specs.Plan.{Plan, interactions, firstOracle, next}
+use Rattle.semantics.specs.Plan.{Plan, interactions, startStates}
 use Rattle.semantics.specs.Code.{State}
 use Rattle.semantics.specs.Rules.{planRefusal}
-use Rattle.semantics.specs.Move.{Configuration, eligible, letter, judged, after, good, initial}
+use Rattle.semantics.specs.Move.{Configuration, eligible, letter, nextStates, judged, after, good, initial}
 use Rattle.semantics.specs.Run.{isRun}
 use Rattle.semantics.specs.Book.{replay}
 use Rattle.bip.specs.Steps.{EngineStep, Path, here, further, Trace, still, onward, endOf}
-use Rattle.bip.specs.Monitor.{Letter, Satisfies, Reads, reads, Allows, Denotes, Label, did, MonitoredStep, Begins, erased, stutter-free, Shows, shown, interactionsOf, EngineRun}
+use Rattle.bip.specs.Monitor.{Letter, Satisfies, Reads, Allows, Denotes, Label, did, MonitoredStep, Begins, erased, stutter-free, Shows, shown, interactionsOf, EngineRun}
 use Rattle.semantics.proofs.Basics.{each, all-of, ltb-true, lt-ltb}
 use Rattle.semantics.proofs.AcceptedPlan.{accepted-plan}
 use Rattle.semantics.proofs.Sound.{Sound, sound-initial, sound-after}
@@ -20,8 +20,10 @@ use Rattle.bip.proofs.Components.{state-of}
 use Rattle.bip.proofs.Enforcement.{enforced}
 use Rattle.bip.proofs.Events.{event-once, good-allows, initial-begins, begins-initial}
 use Rattle.bip.proofs.MonitorRules.{commit-exactly}
+use Rattle.bip.proofs.Meet.{denotes-safety}
+use Rattle.bip.proofs.OracleRules.{reads-next, reads-once}
+use Rattle.bip.proofs.Paths.{path-join}
 use Rattle.bip.proofs.Priorities.{step-low, engine-step-exactly}
-use Rattle.bip.proofs.SafetyProperty.{denotes-safety, path-join, reads-once}
 
 -- ---- the trace of a run of 01
 
@@ -53,12 +55,12 @@ module _ (p : Plan) (ok : planRefusal p ≡ 0) where
 
   -- ---- a trace of the system that stays in the property
 
-  -- the move of a step is eligible, and the event of the state that it leads to takes the oracle where the engine's does
+  -- the move of a step is eligible, and the event of the state that it leads to takes the oracles where the engine's does
   record Same (c : Configuration) (i : ℕ) (e : Letter p) (t : State) : Type 0 where
     number< : i < interactions p
     is-eligible : eligible p (c .state) i ≡ true
     state-same : after p c i .state ≡ t
-    read-same : Reads p (c .oracle) e (after p c i .oracle)
+    read-same : Reads p (c .oracles) e (after p c i .oracles)
 
   same : (c : Configuration) → Sound p c → (i : ℕ) (e : Letter p) (t : State) → EngineStep p (c .state) i t → Satisfies p t e → Same c i e t
   unfolding after judged
@@ -68,23 +70,23 @@ module _ (p : Plan) (ok : planRefusal p ≡ 0) where
         number< = step-low m;
         is-eligible = s .0;
         state-same = sym (s .1);
-        read-same = subst (λ (k : ℕ). Reads p (c .oracle) e (next p (c .oracle) k)) (event-once p t e o ∙ ap (letter p) (s .1)) reads;
+        read-same = subst (λ (k : ℕ). Reads p (c .oracles) e (nextStates p (c .oracles) k)) (event-once p t e o ∙ ap (letter p) (s .1)) (reads-next p (c .oracles) e);
       }
 
   -- it is a run of 01, and ends where the run's moves lead
   trace-run : {s : State} {σ : List (ℕ × State)} → Trace (EngineStep p) s σ → (c : Configuration) → Sound p c → c .state ≡ s
-      → (τ es : List (Letter p)) → Path (Reads p) (firstOracle p) τ (c .oracle) → Shows p σ es → Denotes p (τ ++ es)
+      → (τ es : List (Letter p)) → Path (Reads p) (startStates p) τ (c .oracles) → Shows p σ es → Denotes p (τ ++ es)
       → (isRun p c (interactionsOf σ) ≡ true) × (endOf s σ ≡ replay p c (interactionsOf σ) .state)
   unfolding isRun endOf replay
   trace-run still c h e τ es r shows d = (refl, sym e)
   trace-run (onward {t} {l = i} {σ} m rest) c h e τ events r (shown {e = a} {es} o shows) d =
       let s : Same c i a t = same c h i a t (subst (λ (q : State). EngineStep p q i t) (sym e) m) o in
       let h' : Sound p (after p c i) = sound-after p (accepted-plan p ok) c h i (s .number<) (eligible-enabled p (c .state) i (s .is-eligible)) in
-      let r' : Path (Reads p) (firstOracle p) (τ ++ (a ∷ [])) (after p c i .oracle) = path-join r (further (s .read-same) here) in
+      let r' : Path (Reads p) (startStates p) (τ ++ (a ∷ [])) (after p c i .oracles) = path-join r (further (s .read-same) here) in
       let d' : Denotes p ((τ ++ (a ∷ [])) ++ es) = subst (Denotes p) (sym (append-assoc τ (a ∷ []) es)) d in
       let before = denotes-safety p ok (τ ++ (a ∷ [])) es d' in
-      let w : Allows p (after p c i .oracle)
-      = subst (Allows p) (reads-once p (firstOracle p) (τ ++ (a ∷ [])) (before .0) (after p c i .oracle) (before .1) r') (before .2) in
+      let w : Allows p (after p c i .oracles)
+      = subst (Allows p) (reads-once (before .1) r') (before .2) in
       let g : good p (after p c i) ≡ true = good-allows p ok (after p c i) (h' .in-range) .1 w in
       let later = trace-run rest (after p c i) h' (s .state-same) (τ ++ (a ∷ [])) es r' shows d' in
       (all-of _ (lt-ltb _ _ (s .number<), (commit-from p c i (s .is-eligible) g, (later .0, tt))), later .1)

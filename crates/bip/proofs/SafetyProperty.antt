@@ -1,25 +1,15 @@
--- A lawful oracle table denotes a safety property, which is 1-step tolerant: 002 section 4, definition 11 and proposition 2.
-use mathlib.Core.Path.{_≡_, refl, sym, ap, _∙_, subst}
-use mathlib.Core.Logic.{_⊎_, inl, inr}
-use Prim.Native.Nat.{ℕ, zero, suc, _+_, _≤_}
+-- Properties over any alphabet: a safety property is 1-step tolerant, and the meet of safety properties is one (002 section 4, definition 11 and
+-- proposition 2).
+use mathlib.Core.Path.{_≡_, refl, sym, ap, _∙_}
+use mathlib.Core.Logic.{_↔_}
+use Prim.Native.Nat.{ℕ, _+_, _<_}
 use native.Mathlib.Nat.{le-refl}
 use native.Mathlib.Omega.{arith}
-use mathlib.Core.Bool.{true}
 use mathlib.Core.List.{List, [], _∷_, _++_}
 use lib.ListN.{length, length-append}
-use lib.Dec.{eqb}
-use Rattle.semantics.specs.Bytes.{implies}
-use Rattle.semantics.specs.Plan.{Plan, oracleStates, firstOracle, letters, verdict}
-use Rattle.semantics.specs.Rules.{verdictOk, followerOk, oracleOk, planRefusal}
-use Rattle.semantics.specs.Move.{oracleInRange}
-use Rattle.bip.specs.Steps.{Path, here, further}
-use Rattle.bip.specs.Property.{Property, false-for-good, currently-false, currently-true, true-for-good, Evaluates, always, so-far, not-yet, never, Safety, Tolerant}
-use Rattle.bip.specs.Monitor.{Letter, Reads, reads, Allows, Forbids, Denotes}
-use Rattle.semantics.proofs.Basics.{each, every-at, implies-at, not-yes, ltb-true, leb-true, eqb-true, eq-eqb, eqb-false}
-use Rattle.semantics.proofs.AcceptedPlan.{accepted-plan, counts-of}
-use Rattle.semantics.proofs.Sound.{next-in-range}
+use Rattle.bip.specs.Property.{Property, Truth, false-for-good, currently-false, currently-true, true-for-good, Evaluates, always, so-far, not-yet, never, Meet, Safety, Tolerant}
 
--- ---- properties over any alphabet
+-- ---- safety and tolerance
 
 -- 002 proposition 2, its proof: no sequence is currently false of a safety property.
 pub never-currently-false : {E : Type 0} (Π : Property E) → Safety Π → (σ : List E) → Evaluates Π σ currently-false → ⊥
@@ -61,130 +51,48 @@ one-event-not-safety a safe = none (safe [] (a ∷ []) refl)
     none : _≡_ {A = ℕ} 0 1 → ⊥
     none h = omega arith
 
--- ---- paths
+-- ---- the same property
 
--- 001 definition 12: a path on σ · σ' is one on σ, then one on σ'.
-pub path-split : {S L : Type 0} {step : S → L → S → Type 0} (σ σ' : List L) {s u : S} → Path step s (σ ++ σ') u
-    → (t : S) × Path step s σ t × Path step t σ' u
-path-split [] σ' {s} r = (s, here, r)
-path-split (l ∷ σ) σ' (further h r) = let q = path-split σ σ' r in (q .0, further h (q .1), q .2)
+module _ {E : Type 0} {Π Π' : Property E} (same : (σ : List E) → Π σ ↔ Π' σ) where
+  pub same-safety : Safety Π → Safety Π'
+  same-safety safe σ σ' later = same σ .0 (safe σ σ' (same (σ ++ σ') .1 later))
 
--- 001 definition 12: a path on σ, then one on σ', is a path on σ · σ'.
-pub path-join : {S L : Type 0} {step : S → L → S → Type 0} {s t u : S} {σ σ' : List L} → Path step s σ t → Path step t σ' u → Path step s (σ ++ σ') u
-path-join here r = r
-path-join (further h q) r = further h (path-join q r)
+  pub same-evaluates : {σ : List E} {v : Truth} → Evaluates Π σ v → Evaluates Π' σ v
+  same-evaluates {σ} (always now later) = always (same σ .0 now) (λ σ'. same (σ ++ σ') .0 (later σ'))
+  same-evaluates {σ} (so-far now σ' out) = so-far (same σ .0 now) σ' (λ h. out (same (σ ++ σ') .1 h))
+  same-evaluates {σ} (not-yet out σ' later) = not-yet (λ h. out (same σ .1 h)) σ' (same (σ ++ σ') .0 later)
+  same-evaluates {σ} (never out none) = never (λ h. out (same σ .1 h)) (λ σ' h. none σ' (same (σ ++ σ') .1 h))
 
--- what every step keeps, a path keeps
-path-keeps : {S L : Type 0} {step : S → L → S → Type 0} (P : S → Type 0) → ((s : S) (l : L) (t : S) → step s l t → P s → P t)
-    → {s t : S} {σ : List L} → Path step s σ t → P s → P t
-path-keeps P keeps here h = h
-path-keeps P keeps (further {s} {t} {u} {l} q r) h = path-keeps P keeps r (keeps s l t q h)
+-- ---- the meet of properties
 
--- ---- the oracle's table
+module _ {E : Type 0} (k : ℕ) (Π : ℕ → Property E) where
+  -- 002 section 4: the meet of safety properties is a safety property
+  pub meet-safety : ((n : ℕ) → n < k → Safety (Π n)) → Safety (Meet k Π)
+  meet-safety safe σ σ' later n l = safe n l σ σ' (later n l)
 
--- 002 definition 14: the oracle's transitions are a function.
-pub reads-once : (p : Plan) (θ : ℕ) (σ : List (Letter p)) (θ' θ'' : ℕ) → Path (Reads p) θ σ θ' → Path (Reads p) θ σ θ'' → θ' ≡ θ''
-reads-once p θ [] θ' θ'' here here = refl
-reads-once p θ (e ∷ σ) θ' θ'' (further reads q) (further reads r) = reads-once p _ σ θ' θ'' q r
+  -- 002 proposition 2: so it is 1-step tolerant
+  pub meet-tolerant : ((n : ℕ) → n < k → Safety (Π n)) → Tolerant 1 (Meet k Π)
+  meet-tolerant safe = safety-tolerant (Meet k Π) (meet-safety safe)
 
--- 002 definition 14: a verdict that allows is not one that forbids.
-pub not-both : (p : Plan) (θ : ℕ) → Allows p θ → Forbids p θ → ⊥
-not-both p θ (inl a) f = let h : verdict p θ ≡ 3 = a in let k : verdict p θ ≡ 0 = f in omega arith
-not-both p θ (inr a) f = let h : verdict p θ ≡ 2 = a in let k : verdict p θ ≡ 0 = f in omega arith
-
-lawful-verdict : (v : ℕ) → verdictOk v ≡ true → ((v ≡ 3) ⊎ (v ≡ 2)) ⊎ (v ≡ 0)
-unfolding verdictOk
-lawful-verdict zero e = inr refl
-lawful-verdict (suc zero) e = absurd (eqb-false 1 1 (not-yes (eqb 1 1) (each _ e .1 .0)) refl)
-lawful-verdict (suc (suc zero)) e = inl (inr refl)
-lawful-verdict (suc (suc (suc zero))) e = inl (inl refl)
-lawful-verdict (suc (suc (suc (suc v)))) e = let h : suc (suc (suc (suc v))) ≤ 3 = leb-true _ 3 (each _ e .0) in absurd (omega arith)
-
--- What the verdict of θ says of the σ that leads to it.
-pub record Judges (p : Plan) (σ : List (Letter p)) (θ : ℕ) : Type 0 where
-  pub on-3 : verdict p θ ≡ 3 → Evaluates (Denotes p) σ true-for-good
-  pub on-0 : verdict p θ ≡ 0 → Evaluates (Denotes p) σ false-for-good
-  pub on-2 : verdict p θ ≡ 2 → Denotes p σ
-
-module _ (p : Plan) (accepted : planRefusal p ≡ 0) where
-  -- 01 refusal 9, on one state of the oracle
-  lawful : (θ : ℕ) → oracleInRange p θ ≡ true → oracleOk p θ ≡ true
-  unfolding oracleInRange
-  lawful θ l = accepted-plan p accepted .oracle θ (ltb-true θ (oracleStates p) l)
-
-  -- 01 refusal 9, on one transition of the oracle
-  follower : (θ : ℕ) (e : Letter p) (θ' : ℕ) → Reads p θ e θ' → oracleInRange p θ ≡ true → followerOk p θ θ' ≡ true
-  unfolding oracleOk
-  follower θ e θ' reads l = every-at (letters p) _ (each _ (lawful θ l) .1 .0) (e .0) (e .1)
-
-  reads-in-range : (θ : ℕ) (e : Letter p) (θ' : ℕ) → Reads p θ e θ' → oracleInRange p θ ≡ true → oracleInRange p θ' ≡ true
-  reads-in-range θ e θ' reads l = next-in-range p (accepted-plan p accepted) θ (e .0) l (e .1)
-
-  path-in-range : {θ θ' : ℕ} {σ : List (Letter p)} → Path (Reads p) θ σ θ' → oracleInRange p θ ≡ true → oracleInRange p θ' ≡ true
-  path-in-range = path-keeps (λ θ. oracleInRange p θ ≡ true) reads-in-range
-
-  -- 002 definition 14: the oracle's transition function is complete.
-  pub oracle-reads : (θ : ℕ) → oracleInRange p θ ≡ true → (σ : List (Letter p)) → (θ' : ℕ) × Path (Reads p) θ σ θ' × (oracleInRange p θ' ≡ true)
-  oracle-reads θ l [] = (θ, here, l)
-  oracle-reads θ l (e ∷ σ) = let r = oracle-reads _ (reads-in-range θ e _ reads l) σ in (r .0, further reads (r .1), r .2)
-
-  -- a verdict that refusal 9 has each follower keep, every state reached has
-  verdict-kept : (v : ℕ) → ((θ θ' : ℕ) → followerOk p θ θ' ≡ true → implies (eqb (verdict p θ) v) (eqb (verdict p θ') v) ≡ true)
-      → (θ θ' : ℕ) (σ : List (Letter p)) → oracleInRange p θ ≡ true → Path (Reads p) θ σ θ' → verdict p θ ≡ v → verdict p θ' ≡ v
-  verdict-kept v kept θ θ' σ l r f = path-keeps (λ θ. (oracleInRange p θ ≡ true) × (verdict p θ ≡ v)) keeps r (l, f) .1
+  -- 002 section 4: it is true for good where each property is
+  pub meet-always : {σ : List E} → ((n : ℕ) → n < k → Evaluates (Π n) σ true-for-good) → Evaluates (Meet k Π) σ true-for-good
+  meet-always {σ} each = always (λ n l. now (each n l)) (λ σ' n l. later (each n l) σ')
     where
-      keeps : (θ : ℕ) (e : Letter p) (θ' : ℕ) → Reads p θ e θ' → (oracleInRange p θ ≡ true) × (verdict p θ ≡ v) → (oracleInRange p θ' ≡ true) × (verdict p θ' ≡ v)
-      keeps θ e θ' q h =
-          (reads-in-range θ e θ' q (h .0), eqb-true _ v (implies-at _ _ (kept θ θ' (follower θ e θ' q (h .0))) (eq-eqb _ v (h .1))))
+      now : {Ψ : Property E} → Evaluates Ψ σ true-for-good → Ψ σ
+      now (always h rest) = h
 
-  -- 01 refusal 9: from a bad state the oracle reaches only bad ones.
-  pub bad-for-good : (θ θ' : ℕ) (σ : List (Letter p)) → oracleInRange p θ ≡ true → Path (Reads p) θ σ θ' → Forbids p θ → Forbids p θ'
-  unfolding followerOk
-  bad-for-good = verdict-kept 0 (λ θ θ' h. let (_, (k, _)) = each _ h in k)
+      later : {Ψ : Property E} → Evaluates Ψ σ true-for-good → (σ' : List E) → Ψ (σ ++ σ')
+      later (always h rest) = rest
 
-  -- 01 refusal 9: from a 3 state the oracle reaches only 3 states.
-  pub true-stays : (θ θ' : ℕ) (σ : List (Letter p)) → oracleInRange p θ ≡ true → Path (Reads p) θ σ θ' → verdict p θ ≡ 3 → verdict p θ' ≡ 3
-  unfolding followerOk
-  true-stays = verdict-kept 3 (λ θ θ' h. let (_, (_, (k, _))) = each _ h in k)
+  -- 002 section 4: it is false for good where one of them is
+  pub meet-never : {σ : List E} (n : ℕ) → n < k → Evaluates (Π n) σ false-for-good → Evaluates (Meet k Π) σ false-for-good
+  meet-never n l (never out none) = never (λ h. out (h n l)) (λ σ' h. none σ' (h n l))
 
-  -- 01 refusal 9: "a verdict other than 0, 2, 3". No state is currently false.
-  pub allows-or-forbids : (θ : ℕ) → oracleInRange p θ ≡ true → Allows p θ ⊎ Forbids p θ
-  unfolding oracleOk
-  allows-or-forbids θ l = lawful-verdict (verdict p θ) (each _ (lawful θ l) .0)
+-- ---- verdicts
 
-  first-in-range : oracleInRange p (firstOracle p) ≡ true
-  first-in-range = counts-of p (accepted-plan p accepted .counts) .first
-
-  -- ---- the property that it denotes
-
-  -- 002 section 4: the property that the oracle of an accepted plan denotes is a safety property.
-  pub denotes-safety : Safety (Denotes p)
-  denotes-safety σ σ' (u, r, a) =
-      let (t, before, later) = path-split σ σ' r in
-      elim (allows-or-forbids t (path-in-range before first-in-range))
-      [ inl b ↦ (t, before, b) | inr f ↦ absurd (not-both p u a (bad-for-good t u σ' (path-in-range before first-in-range) later f)) ]
-
-  -- 002 proposition 2, of that property.
-  pub denotes-tolerant : Tolerant 1 (Denotes p)
-  denotes-tolerant = safety-tolerant (Denotes p) denotes-safety
-
-  -- 002 section 4 and definition 14, for the state that the oracle reaches on σ: 3 is ⊤ and 0 is ⊥. 2 says only that σ is in the property: a table may
-  -- give 2 where every continuation stays good.
-  pub verdict-is : (σ : List (Letter p)) (θ : ℕ) → Path (Reads p) (firstOracle p) σ θ → Judges p σ θ
-  verdict-is σ θ r = record { on-3 = on-three; on-0 = on-zero; on-2 = λ v. (θ, r, inr v) }
-    where
-      low : oracleInRange p θ ≡ true
-      low = path-in-range r first-in-range
-
-      on-three : verdict p θ ≡ 3 → Evaluates (Denotes p) σ true-for-good
-      on-three v =
-          always (θ, r, inl v) (λ σ'. let (u, later, _) = oracle-reads θ low σ' in (u, path-join r later, inl (true-stays θ u σ' low later v)))
-
-      out : Forbids p θ → (σ' : List (Letter p)) → Denotes p (σ ++ σ') → ⊥
-      out v σ' (u, q, a) =
-          let (t, before, later) = path-split σ σ' q in
-          let same : θ ≡ t = reads-once p (firstOracle p) σ θ t r before in
-          not-both p u a (bad-for-good θ u σ' low (subst (λ (x : ℕ). Path (Reads p) x σ' u) (sym same) later) v)
-
-      on-zero : Forbids p θ → Evaluates (Denotes p) σ false-for-good
-      on-zero v = never (λ (u, q, a). not-both p u a (subst (Forbids p) (reads-once p (firstOracle p) σ θ u r q) v)) (out v)
+-- What an oracle's verdict says of the σ that it has read, with Π the property that it denotes: 3 is ⊤ and 0 is ⊥. 2 says only that σ is in the property:
+-- a table may give 2 where every continuation stays good.
+pub record Judges {E : Type 0} (Π : Property E) (σ : List E) (verdict : ℕ → Type 0) : Type 0 where
+  pub on-3 : verdict 3 → Evaluates Π σ true-for-good
+  pub on-0 : verdict 0 → Evaluates Π σ false-for-good
+  pub on-2 : verdict 2 → Π σ

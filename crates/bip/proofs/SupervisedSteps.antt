@@ -36,7 +36,7 @@ allFrom i = record { enab = λ j. true; id = i }
 abbrev pub without : Disabler → ℕ → Disabler
 without d i = record { enab = λ j. cond (eqb j i) false (d .enab j); id = i }
 
--- where a step of i leads, by the oracle's verdict
+-- where a step of i leads, by the oracles' verdict
 pub data Leads (p : Plan) (s : Supervised) (i : ℕ) : Label → Supervised → Type 0 where
   leads-on : good p (after p (s .configuration) i) ≡ true → Leads p s i (did i) (supervised (after p (s .configuration) i) (allFrom i))
   leads-back : good p (after p (s .configuration) i) ≡ false → Leads p s i ε (supervised (s .configuration) (without (s .disabler) i))

@@ -103,9 +103,9 @@ module _ (p : Plan) (b : Image) (s : Starts p b) where
   pub start-begins : Begins p (configurationOf (start p b .image))
   start-begins = subst (Begins p) (sym start-configuration) (initial-begins p (start-plan p b s))
 
-  start-allows : Allows p (configurationOf (start p b .image) .oracle)
+  start-allows : Allows p (configurationOf (start p b .image) .oracles)
   start-allows =
-      subst (λ (c : Configuration). Allows p (c .oracle)) (sym start-configuration)
+      subst (λ (c : Configuration). Allows p (c .oracles)) (sym start-configuration)
       (good-allows p (start-plan p b s) (initial p) (sound-initial p (accepted-plan p (start-plan p b s)) .in-range) .0 (start-good p b s))
 
   -- 002 corollary 1 for this engine: the moves that any calls commit are a run of the ranked system that stays in Π, to the state that the image holds

@@ -1,12 +1,13 @@
--- Events (000 section 4.3); the oracle, the enforcement monitor and its composition with a system (002 section 5.2, definitions 14 to 16); beginnings, traces,
+-- Events (000 section 4.3); the oracles, the enforcement monitor and its composition with a system (002 section 5.2, definitions 14 to 16); beginnings, traces,
 -- runs, and what proposition 3 and corollary 1 say. Of the engine's meaning they cite the fields of a plan, the evaluator of code and the record of a
 -- configuration alone.
 use mathlib.Core.Path.{_≡_}
 use mathlib.Core.Logic.{_⊎_}
-use Prim.Native.Nat.{ℕ, _<_}
+use Prim.Native.Nat.{ℕ, _≤_, _<_}
 use mathlib.Core.List.{List, [], _∷_, map}
+use lib.ListN.{length, getD}
 use Rattle.semantics.specs.Bytes.{bit}
-use Rattle.semantics.specs.Plan.{Plan, propositions, firstOracle, letters, propositionOf, verdict, next}
+use Rattle.semantics.specs.Plan.{Plan, maxOracles, propositions, oracles, startStates, letters, propositionOf, verdict, next}
 use Rattle.semantics.specs.Code.{State, guardHolds}
 use Rattle.semantics.specs.Move.{Configuration}
 use Rattle.bip.specs.Steps.{EngineStep, Init, Path, Trace, endOf}
@@ -22,31 +23,53 @@ Letter p = (e : ℕ) × (e < letters p)
 abbrev pub Satisfies : (p : Plan) → State → Letter p → Type 0
 Satisfies p q e = (k : ℕ) → k < propositions p → bit (e .0) k ≡ guardHolds p q (propositionOf p k)
 
--- ---- the runtime oracle: 002 definition 14
+-- ---- the runtime oracle: 002 definition 14, of each oracle of a plan
 
--- θ →e θ' of the oracle: its transition function.
-pub data Reads (p : Plan) (θ : ℕ) (e : Letter p) : ℕ → Type 0 where
-  reads : Reads p θ e (next p θ (e .0))
+-- θ →e θ' of oracle n: its transition function.
+pub data ReadsAlone (p : Plan) (n θ : ℕ) (e : Letter p) : ℕ → Type 0 where
+  reads : ReadsAlone p n θ e (next p n θ (e .0))
 
 -- verdict(θ) ∈ {⊤, ⊤_c}, 01's 3 and 2.
-abbrev pub Allows : Plan → ℕ → Type 0
-Allows p θ = (verdict p θ ≡ 3) ⊎ (verdict p θ ≡ 2)
+abbrev pub AllowsAlone : Plan → ℕ → ℕ → Type 0
+AllowsAlone p n θ = (verdict p n θ ≡ 3) ⊎ (verdict p n θ ≡ 2)
+
+-- The property that oracle n denotes: the sequences of events after which its verdict is ⊤ or ⊤_c.
+abbrev pub DenotesAlone : (p : Plan) → ℕ → Property (Letter p)
+DenotesAlone p n σ = (θ : ℕ) × Path (ReadsAlone p n) (getD (startStates p) n 0) σ θ × AllowsAlone p n θ
+
+-- ---- the oracles of a plan as one (02, job 1), which is the monitor's. Θ is the product of their states: a list of four, with oracle n's state at place n
+-- and 0 where the plan has no oracle n.
+
+-- θ →e θ': each oracle reads the event.
+pub record Reads (p : Plan) (θ : List ℕ) (e : Letter p) (θ' : List ℕ) : Type 0 where
+  pub long : length θ' ≡ maxOracles
+  pub together : (n : ℕ) → n < maxOracles → n < oracles p → ReadsAlone p n (getD θ n 0) e (getD θ' n 0)
+  pub unused : (n : ℕ) → n < maxOracles → oracles p ≤ n → getD θ' n 0 ≡ 0
+
+-- "The verdict .. is the lowest of all the oracles' verdicts": some oracle's, and at most each one's.
+pub record Verdict (p : Plan) (θ : List ℕ) (v : ℕ) : Type 0 where
+  pub reached : (n : ℕ) × (n < oracles p) × (verdict p n (getD θ n 0) ≡ v)
+  pub lowest : (n : ℕ) → n < oracles p → v ≤ verdict p n (getD θ n 0)
+
+-- verdict(θ) ∈ {⊤, ⊤_c}.
+abbrev pub Allows : Plan → List ℕ → Type 0
+Allows p θ = Verdict p θ 3 ⊎ Verdict p θ 2
 
 -- verdict(θ) = ⊥, 01's 0.
-abbrev pub Forbids : Plan → ℕ → Type 0
-Forbids p θ = verdict p θ ≡ 0
+abbrev pub Forbids : Plan → List ℕ → Type 0
+Forbids p θ = Verdict p θ 0
 
--- The property that the oracle denotes: the sequences of events after which its verdict is ⊤ or ⊤_c.
+-- The property that the oracles denote together.
 abbrev pub Denotes : (p : Plan) → Property (Letter p)
-Denotes p σ = (θ : ℕ) × Path (Reads p) (firstOracle p) σ θ × Allows p θ
+Denotes p σ = (θ : List ℕ) × Path (Reads p) (startStates p) σ θ × Allows p θ
 
 -- ---- the enforcement monitor: 002 definition 15
 
 -- Θ and its fresh copies: θ, θ_c and θ_e. 002 prints θ_c without its event; here there is one for each, so that a commit leads where that event does.
 pub data MonitorState (p : Plan) : Type 0 where
-  stable : ℕ → MonitorState p
-  committing : ℕ → Letter p → MonitorState p
-  cancelling : ℕ → Letter p → MonitorState p
+  stable : List ℕ → MonitorState p
+  committing : List ℕ → Letter p → MonitorState p
+  cancelling : List ℕ → Letter p → MonitorState p
 
 -- Σ ∪ {com} ∪ the cancellation events.
 pub data MonitorEvent (p : Plan) : Type 0 where
@@ -56,10 +79,10 @@ pub data MonitorEvent (p : Plan) : Type 0 where
 
 -- The transition function of the monitor: two transitions for each one of the oracle, by the verdict that it leads to.
 pub data Enforces (p : Plan) : MonitorState p → MonitorEvent p → MonitorState p → Type 0 where
-  accepts : {θ θ' : ℕ} {e : Letter p} → Reads p θ e θ' → Allows p θ' → Enforces p (stable θ) (event e) (committing θ e)
-  commits : {θ θ' : ℕ} {e : Letter p} → Reads p θ e θ' → Allows p θ' → Enforces p (committing θ e) commit (stable θ')
-  rejects : {θ θ' : ℕ} {e : Letter p} → Reads p θ e θ' → Forbids p θ' → Enforces p (stable θ) (event e) (cancelling θ e)
-  restores : {θ θ' : ℕ} {e : Letter p} → Reads p θ e θ' → Forbids p θ' → Enforces p (cancelling θ e) (cancel e) (stable θ)
+  accepts : {θ θ' : List ℕ} {e : Letter p} → Reads p θ e θ' → Allows p θ' → Enforces p (stable θ) (event e) (committing θ e)
+  commits : {θ θ' : List ℕ} {e : Letter p} → Reads p θ e θ' → Allows p θ' → Enforces p (committing θ e) commit (stable θ')
+  rejects : {θ θ' : List ℕ} {e : Letter p} → Reads p θ e θ' → Forbids p θ' → Enforces p (stable θ) (event e) (cancelling θ e)
+  restores : {θ θ' : List ℕ} {e : Letter p} → Reads p θ e θ' → Forbids p θ' → Enforces p (cancelling θ e) (cancel e) (stable θ)
 
 -- ---- the composition: 002 definition 16
 
@@ -69,8 +92,8 @@ pub data Label : Type 0 where
   ε : Label
 
 -- ⟨q, θ⟩
-abbrev pub pair : State → ℕ → Configuration
-pair q θ = record { state = q; oracle = θ }
+abbrev pub pair : State → List ℕ → Configuration
+pair q θ = record { state = q; oracles = θ }
 
 -- A system as the composition sees it: its labelled transitions.
 abbrev pub System : Type 1
@@ -80,9 +103,9 @@ System = State → ℕ → State → Type 0
 -- monitor as they were. Rule 1, for a step of which the instrumentation makes no event (002 section 4.2), is left out: 01 has an event read after every
 -- move.
 pub data Monitored (p : Plan) (system : System) (i : ℕ) : Configuration → Label → Configuration → Type 0 where
-  rule-2 : {q q' : State} {θ θ' : ℕ} {e : Letter p} → system q i q' → Satisfies p q' e → Enforces p (stable θ) (event e) (committing θ e)
+  rule-2 : {q q' : State} {θ θ' : List ℕ} {e : Letter p} → system q i q' → Satisfies p q' e → Enforces p (stable θ) (event e) (committing θ e)
       → Enforces p (committing θ e) commit (stable θ') → Monitored p system i (pair q θ) (did i) (pair q' θ')
-  rule-3 : {q q' : State} {θ : ℕ} {e : Letter p} → system q i q' → Satisfies p q' e → Enforces p (stable θ) (event e) (cancelling θ e)
+  rule-3 : {q q' : State} {θ : List ℕ} {e : Letter p} → system q i q' → Satisfies p q' e → Enforces p (stable θ) (event e) (cancelling θ e)
       → Enforces p (cancelling θ e) (cancel e) (stable θ) → Monitored p system i (pair q θ) ε (pair q θ)
 
 -- A step of the composition: of some interaction.
@@ -95,7 +118,7 @@ pub record Begins (p : Plan) (c : Configuration) : Type 0 where
   pub initial-state : Init p (c .state)
   pub first-event : Letter p
   pub observed : Satisfies p (c .state) first-event
-  pub judged-first : Reads p (firstOracle p) first-event (c .oracle)
+  pub judged-first : Reads p (startStates p) first-event (c .oracles)
 
 -- ---- traces: 002 corollary 1
 
@@ -141,7 +164,7 @@ pub record AllowedRun (p : Plan) (system : System) (q : State) (first : Letter p
   pub shows : Shows p trace events
   pub in-property : Denotes p (first ∷ events)
 
--- A run of the ranked system by 01's choice, from a judged beginning to the state q', that stays in the oracle's property.
+-- A run of the ranked system by 01's choice, from a judged beginning to the state q', that stays in the oracles' property.
 pub record EngineRun (p : Plan) (is : List ℕ) (q' : State) : Type 0 where
   pub first : Configuration
   pub begins : Begins p first

@@ -22,6 +22,10 @@ pub data Evaluates {E : Type 0} (Π : Property E) (σ : List E) : Truth → Type
   not-yet : (Π σ → ⊥) → (σ' : List E) → Π (σ ++ σ') → Evaluates Π σ currently-false
   never : (Π σ → ⊥) → ((σ' : List E) → Π (σ ++ σ') → ⊥) → Evaluates Π σ false-for-good
 
+-- The meet of k properties: what is in all of them.
+abbrev pub Meet : {E : Type 0} → ℕ → (ℕ → Property E) → Property E
+Meet k Π σ = (n : ℕ) → n < k → Π n σ
+
 -- 002 section 4: "Safety properties are the prefix closed subsets of Σ*."
 abbrev pub Safety : {E : Type 0} → Property E → Type 0
 Safety {E} Π = (σ σ' : List E) → Π (σ ++ σ') → Π σ

@@ -1,4 +1,4 @@
--- What each call answers and leaves, from the refusal of 1 to 14 and the tests that come after it.
+-- What each call answers and leaves, from the refusal of plan and image and the tests that come after it.
 use mathlib.Core.Path.{_≡_, refl, sym, ap, _∙_}
 use Prim.Native.Nat.{ℕ, _-_, _^_, _≤_, _<_}
 use mathlib.Core.Bool.{Bool, true, false, not}
@@ -28,7 +28,7 @@ pub parts : {o : Outcome} {a : Answer} {x : Image} → o ≡ outcome a x → (a 
 parts e = (sym (ap (λ (o : Outcome). o .answer) e), sym (ap (λ (o : Outcome). o .image) e))
 
 module _ (p : Plan) (b : Image) where
-  -- a refusal of 1 to 14 is every call's
+  -- a refusal of plan or image is every call's
   pub called-refused : (k : Call) (n : ℕ) → refusal (planRules p ++ imageRules p b) ≡ n → (n ≡ 0 → ⊥) → called p b k ≡ outcome (refused n) b
   unfolding called callRules
   called-refused offered n e z = ap (λ (m : ℕ). unlessRefused m b (performed p b offered)) e ∙ unless-refused-some n b (performed p b offered) z

@@ -11,14 +11,14 @@ use Rattle.semantics.specs.Plan.{Plan, transitions, interactions}
 use Rattle.semantics.specs.Code.{State}
 use Rattle.semantics.specs.Refusal.{refusal}
 use Rattle.semantics.specs.Rules.{planRules}
-use Rattle.semantics.specs.Move.{Configuration, enabled, eligible, after, oracleInRange, oracleGood, good, safeMove}
-use Rattle.semantics.specs.Image.{Image, imageLength, image, withMarks, marksOf, configurationOf, imageRules}
+use Rattle.semantics.specs.Move.{Configuration, enabled, eligible, after, oraclesInRange, oraclesGood, good, safeMove}
+use Rattle.semantics.specs.Image.{Image, image, withMarks, marksOf, configurationOf, imageRules}
 use Rattle.semantics.specs.Calls.{offers, committed, cancelled, stalled, penned, refused, outcome, Call, offered, try, settle, called}
-use Rattle.semantics.proofs.Basics.{eq-eqb, le-ltb}
+use Rattle.semantics.proofs.Basics.{le-ltb}
 use Rattle.semantics.proofs.Masks.{bit-mask}
 use Rattle.semantics.proofs.LawfulImage.{configured, LawfulImage, lawful-image}
 use Rattle.lane.specs.declared.run.Run.{Run}
-use Rattle.lane.specs.Runs.{stateOf, configurationIn, runOf, loaded}
+use Rattle.lane.specs.Runs.{stateOf, configurationIn, runOf}
 use Rattle.engine.specs.declared.reading.Reading.{Reading}
 use Rattle.engine.specs.Known.{Known, ImageHolds}
 use Rattle.engine.proofs.CallLaws.{called-refused, called-offered, try-outside, try-disabled, try-outranked, try-marked, try-committed, try-cancelled, offer-mask, offer-open, safe-on-offer, settle-committed, settle-stalled, settle-penned}
@@ -26,23 +26,19 @@ use Rattle.engine.proofs.CallLaws.{called-refused, called-offered, try-
 -- What a call knows of a lane that was read: its run record, and of it what the reading gave.
 pub record Read (p : Plan) (b : Image) (run : Run) (x : Reading) : Type 0 where
   pub refusal-is : x .refusal ≡ refusal (planRules p ++ imageRules p b)
-  pub run-is : run ≡ loaded b
+  pub run-is : run ≡ runOf (configurationOf b) (marksOf b)
   pub known : x .refusal ≡ 0 → Known p (stateOf run) x
 
 -- before a transition is considered, the table of choices of a plan that has a header has none
 pub unset-none : (p : Plan) (r : ℕ) → r ≡ cond (ltb (length p) 48) 0 (transitions p) → 48 ≤ length p → replicate 256 r ≡ replicate 256 (transitions p)
 unset-none p r e h = ap (replicate 256) (e ∙ rw (le-ltb (length p) 48 h) refl)
 
--- an image of the right length holds its configuration and its marks
-pub loaded-long : (b : Image) → length b ≡ imageLength → loaded b ≡ runOf (configurationOf b) (marksOf b)
-unfolding loaded
-loaded-long b e = rw (eq-eqb (length b) imageLength e) refl
-
-pub loaded-held : (b : Image) (run : Run) → run ≡ loaded b → ImageHolds b (configurationIn run) (run .marks)
+-- the run record of an image holds its configuration and its marks
+pub loaded-held : (b : Image) (run : Run) → run ≡ runOf (configurationOf b) (marksOf b) → ImageHolds b (configurationIn run) (run .marks)
 loaded-held b run e =
     record {
-      configuration-is = λ l. ap (λ (r : Run). configurationIn r) (e ∙ loaded-long b l);
-      marks-are = λ l. ap (λ (r : Run). r .marks) (e ∙ loaded-long b l);
+      configuration-is = ap (λ (r : Run). configurationIn r) e;
+      marks-are = ap (λ (r : Run). r .marks) e;
     }
 
 module _ {p : Plan} {b : Image} {run : Run} {x : Reading} (w : Read p b run x) where
@@ -60,20 +56,20 @@ module _ {p : Plan} {b : Image} {run : Run} {x : Reading} (w : Read p b run x) w
     held = loaded-held b run (w .run-is)
 
     lane-is : configurationIn run ≡ configurationOf b
-    lane-is = held .configuration-is (lawful .long)
+    lane-is = held .configuration-is
 
     state-is : stateOf run ≡ configurationOf b .state
     state-is = ap (λ (c : Configuration). c .state) lane-is
 
     marks-are : run .marks ≡ marksOf b
-    marks-are = held .marks-are (lawful .long)
+    marks-are = held .marks-are
 
     masks : Known p (configurationOf b .state) x
     masks = subst (λ (s : State). Known p s x) state-is (w .known z)
 
-    pub in-range : oracleInRange p (run .oracle) ≡ true
+    pub in-range : oraclesInRange p (run .oracles) ≡ true
     in-range =
-        subst (λ (c : Configuration). oracleInRange p (c .oracle) ≡ true) (sym lane-is) (configured p (configurationOf b) (lawful .configuration) .in-range)
+        subst (λ (c : Configuration). oraclesInRange p (c .oracles) ≡ true) (sym lane-is) (configured p (configurationOf b) (lawful .configuration) .in-range)
 
     -- ---- offered
 
@@ -146,16 +142,16 @@ module _ {p : Plan} {b : Image} {run : Run} {x : Reading} (w : Read p b run x) w
               moved : d ≡ after p (configurationOf b) i
               moved = e ∙ ap (λ (c : Configuration). after p c i) lane-is
 
-              good-is : oracleGood p (d .oracle) ≡ good p (after p (configurationOf b) i)
+              good-is : oraclesGood p (d .oracles) ≡ good p (after p (configurationOf b) i)
               unfolding good
-              good-is = ap (λ (c : Configuration). oracleGood p (c .oracle)) moved
+              good-is = ap (λ (c : Configuration). oraclesGood p (c .oracles)) moved
 
-              pub ends-committed : oracleGood p (d .oracle) ≡ true → called p b (try i) ≡ outcome (committed i) (image p d 0)
+              pub ends-committed : oraclesGood p (d .oracles) ≡ true → called p b (try i) ≡ outcome (committed i) (image p d 0)
               ends-committed g =
                   try-committed p b none i l (sym enabled-bit ∙ n) (sym eligible-bit ∙ q) (sym mark-bit ∙ m) (sym good-is ∙ g)
                   ∙ ap (λ (c : Configuration). outcome (committed i) (image p c 0)) (sym moved)
 
-              pub ends-cancelled : oracleGood p (d .oracle) ≡ false → called p b (try i) ≡ outcome (cancelled i) (withMarks b (withBit (run .marks) i))
+              pub ends-cancelled : oraclesGood p (d .oracles) ≡ false → called p b (try i) ≡ outcome (cancelled i) (withMarks b (withBit (run .marks) i))
               ends-cancelled g =
                   try-cancelled p b none i l (sym enabled-bit ∙ n) (sym eligible-bit ∙ q) (sym mark-bit ∙ m) (sym good-is ∙ g)
                   ∙ ap (λ (v : ℕ). outcome (cancelled i) (withMarks b (withBit v i))) (sym marks-are)

@@ -1,12 +1,11 @@
--- What is known of a lane: the masks of one that none of 1 to 14 refuses, and that the parts lent are those of its image.
+-- What is known of a lane: the masks of one whose plan and image are not refused, and that the parts lent are those of its image.
 use mathlib.Core.Path.{_≡_}
 use Prim.Native.Nat.{ℕ}
-use lib.ListN.{length}
 use Rattle.semantics.specs.Bytes.{mask}
 use Rattle.semantics.specs.Code.{State}
 use Rattle.semantics.specs.Plan.{Plan, interactions}
 use Rattle.semantics.specs.Move.{Configuration, enabled, eligible}
-use Rattle.semantics.specs.Image.{Image, imageLength, marksOf, configurationOf}
+use Rattle.semantics.specs.Image.{Image, marksOf, configurationOf}
 use Rattle.engine.specs.declared.reading.Reading.{Reading}
 
 -- The masks of a lane in the state s.
@@ -14,7 +13,7 @@ pub record Known (p : Plan) (s : State) (e : Reading) : Type 0 where
   pub enabled-is : e .enabled ≡ mask (interactions p) (enabled p s)
   pub eligible-is : e .eligible ≡ mask (interactions p) (eligible p s)
 
--- The configuration and the marks are those that the image holds, where it has an image's length.
+-- The configuration and the marks are those that the image holds.
 pub record ImageHolds (b : Image) (c : Configuration) (m : ℕ) : Type 0 where
-  pub configuration-is : length b ≡ imageLength → c ≡ configurationOf b
-  pub marks-are : length b ≡ imageLength → m ≡ marksOf b
+  pub configuration-is : c ≡ configurationOf b
+  pub marks-are : m ≡ marksOf b

@@ -13,10 +13,12 @@ use oracle::row;
 use words::bits;
 ghost use mathlib.Core.Path.{_≡_};
 ghost use Rattle.semantics.specs.Rules.{planRefusal};
+ghost use lib.ListN.{length};
+ghost use Rattle.semantics.specs.Image.{imageLength};
 ghost use Rattle.semantics.specs.Calls.{start, called, Call.offered, Call.try, Call.settle};
 ghost use Rattle.engine.specs.Answers.{answerOf, offerOf};
 
-// Starts a lane: 1 to 10, 11 and 15, then the starting configuration, its event read, with no marks.
+// Starts a lane: the plan's refusals, 11 and 15, then the starting configuration, its event read, with no marks.
 pub fn start(plan: &[u8], image: &mut [u8]) -> Answer
     ensures { λ r. ⌜ (answerOf r ≡ start (now (plan .entry)) (now (image .entry)) .answer) × (now (image .exit) ≡ start (now (plan .entry)) (now (image .entry)) .image) ⌝ }
 {
@@ -35,25 +37,15 @@ pub fn start_from(plan: &[u8], image: &mut [u8], checked: u8) -> Answer
         return Answer::Refused(11);
     }
     let run = run::starting(plan);
-    let oracle = judge::judge(
-        plan,
-        &run.locations,
-        &run.last_ports,
-        &run.values,
-        run.oracle,
-    );
-    if !row::good(plan, oracle) {
+    let locations = run.locations;
+    let ports = run.last_ports;
+    let values = run.values;
+    let first = run.oracles;
+    let oracles = judge::judge(plan, &locations, &ports, &values, first);
+    if !row::good(plan, oracles) {
         return Answer::Refused(15);
     }
-    run::store(
-        plan,
-        image,
-        &run.locations,
-        &run.last_ports,
-        &run.values,
-        oracle,
-        0,
-    );
+    run::store(plan, image, &locations, &ports, &values, oracles, 0);
     Answer::Accepted
 }
 
@@ -68,16 +60,34 @@ pub fn offered_from(plan: &[u8], image: &[u8], checked: u8) -> Offer
     requires { ⌜ checked ≡ planRefusal (now plan) ⌝ }
     ensures { λ r. ⌜ offerOf r ≡ called (now (plan .entry)) (now (image .entry)) offered .answer ⌝ }
 {
+    if image.len() != LENGTH {
+        return Offer {
+            answer: Answer::Refused(reading::unreadable(plan, image, checked)),
+            bits: 0,
+        };
+    }
+    offered_on(plan, image, checked)
+}
+
+// The same, on an image that has its length.
+fn offered_on(plan: &[u8], image: &[u8], checked: u8) -> Offer
+    requires { ⌜ (checked ≡ planRefusal (now plan)) × (length (now image) ≡ imageLength) ⌝ }
+    ensures { λ r. ⌜ offerOf r ≡ called (now (plan .entry)) (now (image .entry)) offered .answer ⌝ }
+{
     let run = run::load(image);
+    let locations = run.locations;
+    let ports = run.last_ports;
+    let values = run.values;
+    let oracles = run.oracles;
     let mut chosen = [choice::unset(plan); 256];
     let lane = reading::read(
         plan,
         image,
         checked,
-        &run.locations,
-        &run.last_ports,
-        &run.values,
-        run.oracle,
+        &locations,
+        &ports,
+        &values,
+        oracles,
         run.marks,
         &mut chosen,
     );
@@ -105,16 +115,31 @@ pub fn try_from(plan: &[u8], image: &mut [u8], checked: u8, i: u32) -> Answer
     requires { ⌜ checked ≡ planRefusal (now plan) ⌝ }
     ensures { λ r. ⌜ (answerOf r ≡ called (now (plan .entry)) (now (image .entry)) (try i) .answer) × (now (image .exit) ≡ called (now (plan .entry)) (now (image .entry)) (try i) .image) ⌝ }
 {
+    if image.len() != LENGTH {
+        return Answer::Refused(reading::unreadable(plan, image, checked));
+    }
+    try_on(plan, image, checked, i)
+}
+
+// The same, on an image that has its length.
+fn try_on(plan: &[u8], image: &mut [u8], checked: u8, i: u32) -> Answer
+    requires { ⌜ (checked ≡ planRefusal (now plan)) × (length (now image) ≡ imageLength) ⌝ }
+    ensures { λ r. ⌜ (answerOf r ≡ called (now (plan .entry)) (now (image .entry)) (try i) .answer) × (now (image .exit) ≡ called (now (plan .entry)) (now (image .entry)) (try i) .image) ⌝ }
+{
     let run = run::load(image);
+    let mut places = run.locations;
+    let mut last = run.last_ports;
+    let mut numbers = run.values;
+    let oracles = run.oracles;
     let mut chosen = [choice::unset(plan); 256];
     let lane = reading::read(
         plan,
         image,
         checked,
-        &run.locations,
-        &run.last_ports,
-        &run.values,
-        run.oracle,
+        &places,
+        &last,
+        &numbers,
+        oracles,
         run.marks,
         &mut chosen,
     );
@@ -135,20 +160,17 @@ pub fn try_from(plan: &[u8], image: &mut [u8], checked: u8, i: u32) -> Answer
     if bits::bit(run.marks, n) {
         return Answer::Refused(19);
     }
-    let mut places = run.locations;
-    let mut last = run.last_ports;
-    let mut numbers = run.values;
-    let oracle = judge::after(
+    let after = judge::after(
         plan,
         &mut places,
         &mut last,
         &mut numbers,
-        run.oracle,
+        oracles,
         &chosen,
         n,
     );
-    if row::good(plan, oracle) {
-        run::store(plan, image, &places, &last, &numbers, oracle, 0);
+    if row::good(plan, after) {
+        run::store(plan, image, &places, &last, &numbers, after, 0);
         return Answer::Committed(n as u8);
     }
     run::put_marks(image, bits::with_bit(run.marks, n));
@@ -166,16 +188,31 @@ pub fn settle_from(plan: &[u8], image: &mut [u8], checked: u8) -> Answer
     requires { ⌜ checked ≡ planRefusal (now plan) ⌝ }
     ensures { λ r. ⌜ (answerOf r ≡ called (now (plan .entry)) (now (image .entry)) settle .answer) × (now (image .exit) ≡ called (now (plan .entry)) (now (image .entry)) settle .image) ⌝ }
 {
+    if image.len() != LENGTH {
+        return Answer::Refused(reading::unreadable(plan, image, checked));
+    }
+    settle_on(plan, image, checked)
+}
+
+// The same, on an image that has its length.
+fn settle_on(plan: &[u8], image: &mut [u8], checked: u8) -> Answer
+    requires { ⌜ (checked ≡ planRefusal (now plan)) × (length (now image) ≡ imageLength) ⌝ }
+    ensures { λ r. ⌜ (answerOf r ≡ called (now (plan .entry)) (now (image .entry)) settle .answer) × (now (image .exit) ≡ called (now (plan .entry)) (now (image .entry)) settle .image) ⌝ }
+{
     let run = run::load(image);
+    let locations = run.locations;
+    let ports = run.last_ports;
+    let values = run.values;
+    let oracles = run.oracles;
     let mut chosen = [choice::unset(plan); 256];
     let lane = reading::read(
         plan,
         image,
         checked,
-        &run.locations,
-        &run.last_ports,
-        &run.values,
-        run.oracle,
+        &locations,
+        &ports,
+        &values,
+        oracles,
         run.marks,
         &mut chosen,
     );
@@ -183,15 +220,15 @@ pub fn settle_from(plan: &[u8], image: &mut [u8], checked: u8) -> Answer
     if refusal != 0 {
         return Answer::Refused(refusal);
     }
-    let mut places = run.locations;
-    let mut last = run.last_ports;
-    let mut numbers = run.values;
+    let mut places = locations;
+    let mut last = ports;
+    let mut numbers = values;
     let found = search::lowest_good(
         plan,
-        &run.locations,
-        &run.last_ports,
-        &run.values,
-        run.oracle,
+        &locations,
+        &ports,
+        &values,
+        oracles,
         &chosen,
         lane.eligible & !run.marks,
         &mut places,
@@ -200,7 +237,8 @@ pub fn settle_from(plan: &[u8], image: &mut [u8], checked: u8) -> Answer
     );
     let n = found.number;
     if n < interactions(plan) {
-        run::store(plan, image, &places, &last, &numbers, found.oracle, 0);
+        let states = found.oracles;
+        run::store(plan, image, &places, &last, &numbers, states, 0);
         return Answer::Committed(n as u8);
     }
     if lane.enabled == 0 {

@@ -1,9 +1,8 @@
-// The reading of a plan and a lane's image: the refusals 1 to 14 in order, and where none applies what is enabled and eligible.
+// The reading of a plan and a lane's image: the refusals of both in order, and where none applies what is enabled and eligible.
 use choices::choice;
 use choices::masks;
 use lane::image;
 use layout::header::interactions;
-use layout::image::LENGTH;
 use moves::search;
 use words::bits;
 ghost use mathlib.Core.Path.{_≡_};
@@ -16,13 +15,13 @@ ghost use Rattle.semantics.specs.Plan.{transitions, interactions};
 ghost use Rattle.semantics.specs.Code.{site};
 ghost use Rattle.semantics.specs.Refusal.{refusal};
 ghost use Rattle.semantics.specs.Rules.{planRules, planRefusal};
-ghost use Rattle.semantics.specs.Move.{eligible, oracleInRange};
-ghost use Rattle.semantics.specs.Image.{marksOk, imageRules};
+ghost use Rattle.semantics.specs.Move.{eligible, oraclesInRange};
+ghost use Rattle.semantics.specs.Image.{imageLength, marksOk, imageRules};
 ghost use Rattle.choices.specs.Choices.{chosenTable};
 ghost use Rattle.lane.specs.Runs.{lent, Sized};
 ghost use Rattle.engine.specs.Known.{Known, ImageHolds};
 
-// The first refusal of 1 to 14, and where that is 0 the enabled and the eligible interactions.
+// The first refusal of plan and image, and where that is 0 the enabled and the eligible interactions.
 pub struct Reading {
     pub refusal: u8,
     pub enabled: u64,
@@ -40,21 +39,33 @@ fn turned_away(refusal: u8) -> Reading
     }
 }
 
+// The refusal of an image of another length: the plan's, or 11.
+pub fn unreadable(plan: &[u8], image: &[u8], checked: u8) -> u8
+    requires { ⌜ checked ≡ planRefusal (now plan) ⌝ }
+    requires { ⌜ (length (now image) ≡ imageLength → ⊥) ⌝ }
+    ensures { λ r. ⌜ (refusal (planRules (now (plan .entry)) ++ imageRules (now (plan .entry)) (now (image .entry))) ≡ r) × (r ≡ 0 → ⊥) ⌝ }
+{
+    if checked != 0 {
+        return checked;
+    }
+    11
+}
+
 // 14: whether each mark is on an eligible interaction that ends bad.
 fn marks_ok<'a>(
     plan: &[u8],
     locations: &'a [u8; 16],
     ports: &'a [u8; 16],
     values: &'a [i32; 64],
-    oracle: u8,
+    oracles: [u8; 4],
     marks: u64,
     chosen: &[u16; 256],
     eligible: u64,
 ) -> bool
     requires { ⌜ planRefusal (now plan) ≡ 0 ⌝ }
     requires { ⌜ (now chosen ≡ chosenTable (now plan) (site (now locations) (now ports) (now values))) × Sized (now locations) (now ports) (now values) ⌝ }
-    requires { ⌜ (oracleInRange (now plan) oracle ≡ true) × (eligible ≡ mask (interactions (now plan)) (Rattle.semantics.specs.Move.eligible (now plan) (site (now locations) (now ports) (now values)))) ⌝ }
-    ensures { λ r. ⌜ r ≡ marksOk (now (plan .entry)) (lent (now (locations .entry)) (now (ports .entry)) (now (values .entry)) oracle) marks ⌝ }
+    requires { ⌜ (oraclesInRange (now plan) oracles ≡ true) × (eligible ≡ mask (interactions (now plan)) (Rattle.semantics.specs.Move.eligible (now plan) (site (now locations) (now ports) (now values)))) ⌝ }
+    ensures { λ r. ⌜ r ≡ marksOk (now (plan .entry)) (lent (now (locations .entry)) (now (ports .entry)) (now (values .entry)) oracles) marks ⌝ }
 {
     if !bits::inside(marks, eligible) {
         return false;
@@ -70,7 +81,7 @@ fn marks_ok<'a>(
         locations,
         ports,
         values,
-        oracle,
+        oracles,
         chosen,
         marks,
         &mut places,
@@ -80,8 +91,8 @@ fn marks_ok<'a>(
     found.number >= interactions(plan)
 }
 
-// Reads plan and image: `checked` is what the plan's check said, the parts lent are those of the image's run record, and the table of choices has none yet.
-// Where nothing is refused the table is filled.
+// Reads plan and image, which has its length: `checked` is what the plan's check said, the parts lent are those of the image's run record, and the table of
+// choices has none yet. Where nothing is refused the table is filled.
 pub fn read<'a>(
     plan: &[u8],
     image: &[u8],
@@ -89,12 +100,12 @@ pub fn read<'a>(
     locations: &'a [u8; 16],
     ports: &'a [u8; 16],
     values: &'a [i32; 64],
-    oracle: u8,
+    oracles: [u8; 4],
     marks: u64,
     chosen: &mut [u16; 256],
 ) -> Reading
-    requires { ⌜ checked ≡ planRefusal (now plan) ⌝ }
-    requires { ⌜ ImageHolds (now image) (lent (now locations) (now ports) (now values) oracle) marks × Sized (now locations) (now ports) (now values) ⌝ }
+    requires { ⌜ (checked ≡ planRefusal (now plan)) × (length (now image) ≡ imageLength) ⌝ }
+    requires { ⌜ ImageHolds (now image) (lent (now locations) (now ports) (now values) oracles) marks × Sized (now locations) (now ports) (now values) ⌝ }
     requires { ⌜ (48 ≤ length (now plan) → now chosen ≡ replicate 256 (transitions (now plan))) ⌝ }
     ensures { λ r. ⌜ r .refusal ≡ refusal (planRules (now (plan .entry)) ++ imageRules (now (plan .entry)) (now (image .entry))) ⌝ }
     ensures { λ r. ⌜ (r .refusal ≡ 0 → now (chosen .exit) ≡ chosenTable (now (plan .entry)) (site (now (locations .entry)) (now (ports .entry)) (now (values .entry)))) ⌝ }
@@ -103,13 +114,10 @@ pub fn read<'a>(
     if checked != 0 {
         return turned_away(checked);
     }
-    if image.len() != LENGTH {
-        return turned_away(11);
-    }
     if !image::head_matches(plan, image) {
         return turned_away(12);
     }
-    if !image::configuration_ok(plan, locations, ports, values, oracle) {
+    if !image::configuration_ok(plan, locations, ports, values, oracles) {
         return turned_away(13);
     }
     choice::choose(plan, locations, ports, values, chosen);
@@ -120,7 +128,7 @@ pub fn read<'a>(
         locations,
         ports,
         values,
-        oracle,
+        oracles,
         marks,
         chosen,
         eligible,

@@ -50,18 +50,18 @@ marks-put l m = refl
 -- five parts in a row
 pub written : (p : Plan) (c : Configuration) (m : ℕ) (l : List ℕ) {w₁ w₂ w₃ w₄ w₅ : List ℕ} → length l ≡ imageLength
     → length (c .state .locations) ≡ maxComponents → length (c .state .lastPorts) ≡ maxComponents → length (c .state .values) ≡ maxVariables
-    → w₁ ≡ splice l 0 (head p (c .oracle)) → w₂ ≡ splice w₁ marksPlace (leBytes 8 m) → w₃ ≡ splice w₂ locationsPlace (c .state .locations)
+    → w₁ ≡ splice l 0 (head p (c .oracles)) → w₂ ≡ splice w₁ marksPlace (leBytes 8 m) → w₃ ≡ splice w₂ locationsPlace (c .state .locations)
     → w₄ ≡ splice w₃ lastPortsPlace (c .state .lastPorts) → w₅ ≡ splice w₄ (valuePlace 0) (valueBytes (c .state .values)) → w₅ ≡ image p c m
 unfolding image head leBytes
 written p c m l {w₁ = w₁} {w₂ = w₂} {w₃ = w₃} {w₄ = w₄} {w₅ = w₅} h hl hp hv e₁ e₂ e₃ e₄ e₅ =
-    let b = head p (c .oracle) ++ leBytes 8 m in
+    let b = head p (c .oracles) ++ leBytes 8 m in
     let d = b ++ c .state .locations in
     let f = d ++ c .state .lastPorts in
     let v = valueBytes (c .state .values) in
     let nd : length d ≡ lastPortsPlace = length-append b (c .state .locations) ∙ ap (λ (n : ℕ). locationsPlace + n) hl in
     let nf : length f ≡ valuePlace 0 = length-append d (c .state .lastPorts) ∙ ap₂ _+_ nd hp in
     let nv : length (f ++ v) ≡ imageLength = length-append f v ∙ ap₂ _+_ nf (length-valueBytes (c .state .values) ∙ ap (λ (n : ℕ). 4 * n) hv) in
-    let r₂ = splice-next l (head p (c .oracle)) (leBytes 8 m) marksPlace w₁ w₂ refl (omega arith) e₁ e₂ in
+    let r₂ = splice-next l (head p (c .oracles)) (leBytes 8 m) marksPlace w₁ w₂ refl (omega arith) e₁ e₂ in
     let r₃ = splice-next l b (c .state .locations) locationsPlace w₂ w₃ refl (omega arith) r₂ e₃ in
     let r₄ = splice-next l d (c .state .lastPorts) lastPortsPlace w₃ w₄ nd (omega arith) r₃ e₄ in
     let r₅ = splice-next l f v (valuePlace 0) w₄ w₅ nf (omega arith) r₄ e₅ in

@@ -10,7 +10,6 @@ use layout::image::COMPONENTS;
 use layout::image::FORM;
 use layout::image::INTERACTIONS;
 use layout::image::PLAN_NUMBER;
-use layout::image::RESERVED;
 use layout::image::VARIABLES;
 use layout::records::PORTS;
 use layout::records::component_at;
@@ -63,7 +62,7 @@ fn number_matches(plan: &[u8], image: &[u8]) -> bool
         & (image[PLAN_NUMBER + 3] == number_byte(plan, 3))
 }
 
-// Whether the head of an image is the plan's: its first sixteen bytes but the oracle state.
+// Whether the head of an image is the plan's: its first sixteen bytes but the oracles' states.
 pub fn head_matches(plan: &[u8], image: &[u8]) -> bool
     requires { ⌜ planRefusal (now plan) ≡ 0 ⌝ }
     requires { ⌜ length (now image) ≡ imageLength ⌝ }
@@ -72,9 +71,6 @@ pub fn head_matches(plan: &[u8], image: &[u8]) -> bool
     tagged(image, b"YARD")
         & (image[FORM] == 1)
         & counts_match(plan, image)
-        & (image[RESERVED] == 0)
-        & (image[RESERVED + 1] == 0)
-        & (image[RESERVED + 2] == 0)
         & number_matches(plan, image)
 }
 
@@ -125,16 +121,16 @@ pub fn configuration_ok<'a>(
     locations: &'a [u8; 16],
     ports: &'a [u8; 16],
     values: &'a [i32; 64],
-    oracle: u8,
+    oracles: [u8; 4],
 ) -> bool
     requires { ⌜ planRefusal (now plan) ≡ 0 ⌝ }
     ensures { λ r.
         ⌜ r
         ≡ configurationOk (now (plan .entry))
-        (record { state = site (now (locations .entry)) (now (ports .entry)) (now (values .entry)); oracle = oracle }) ⌝ }
+        (record { state = site (now (locations .entry)) (now (ports .entry)) (now (values .entry)); oracles = oracles }) ⌝ }
 {
-    if in_range(plan, oracle) {
-        good(plan, oracle) & components_ok(plan, locations, ports) & values_ok(plan, values)
+    if in_range(plan, oracles) {
+        good(plan, oracles) & components_ok(plan, locations, ports) & values_ok(plan, values)
     } else {
         false
     }

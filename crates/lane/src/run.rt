@@ -10,10 +10,9 @@ use layout::header::variable_byte;
 use layout::header::variables;
 use layout::image::FORM;
 use layout::image::LAST_PORTS;
-use layout::image::LENGTH;
 use layout::image::LOCATIONS;
 use layout::image::MARKS;
-use layout::image::ORACLE;
+use layout::image::ORACLES;
 use layout::image::value_at;
 use layout::records::START_LOCATION;
 use layout::records::START_VALUE;
@@ -26,18 +25,18 @@ ghost use mathlib.Core.Path.{_≡_};
 ghost use Prim.Native.Nat.{_+_, _≤_};
 ghost use lib.ListN.{length, take, drop};
 ghost use Rattle.words.specs.Splice.{splice};
-ghost use Rattle.semantics.specs.Plan.{maxComponents, maxVariables, firstOracle};
+ghost use Rattle.semantics.specs.Plan.{maxComponents, maxVariables, maxOracles, startStates};
 ghost use Rattle.semantics.specs.Rules.{planRefusal};
 ghost use Rattle.semantics.specs.Move.{initialState};
-ghost use Rattle.semantics.specs.Image.{imageLength, valuePlace, head, valueBytes, withMarks, configurationOf, marksOf, image as imageOf};
-ghost use Rattle.lane.specs.Runs.{runOf, lent, Sized, blankRun, loaded};
+ghost use Rattle.semantics.specs.Image.{imageLength, oraclesPlace, valuePlace, head, valueBytes, withMarks, configurationOf, marksOf, image as imageOf};
+ghost use Rattle.lane.specs.Runs.{runOf, lent, Sized};
 
-// Where a run stands: each component's location and last port, the variables, the oracle state, the moves crossed off.
+// Where a run stands: each component's location and last port, the variables, the oracles' states, the moves crossed off.
 pub struct Run {
     pub locations: [u8; 16],
     pub last_ports: [u8; 16],
     pub values: [i32; 64],
-    pub oracle: u8,
+    pub oracles: [u8; 4],
     pub marks: u64,
 }
 
@@ -53,6 +52,19 @@ fn bytes16(image: &[u8], at: usize) -> [u8; 16]
     out
 }
 
+// The states of the four oracles.
+fn bytes4(image: &[u8]) -> [u8; 4]
+    requires { ⌜ length (now image) ≡ imageLength ⌝ }
+    ensures { λ r. ⌜ r ≡ take maxOracles (drop oraclesPlace (now (image .entry))) ⌝ }
+{
+    [
+        image[ORACLES],
+        image[ORACLES + 1],
+        image[ORACLES + 2],
+        image[ORACLES + 3],
+    ]
+}
+
 // The sixty-four values of an image.
 fn values64(image: &[u8]) -> [i32; 64]
     requires { ⌜ length (now image) ≡ imageLength ⌝ }
@@ -65,61 +77,39 @@ fn values64(image: &[u8]) -> [i32; 64]
     out
 }
 
-// The run that an image of the right length holds.
-fn unpacked(image: &[u8]) -> Run
+// The run that an image holds.
+pub fn load(image: &[u8]) -> Run
     requires { ⌜ length (now image) ≡ imageLength ⌝ }
     ensures { λ r. ⌜ r ≡ runOf (configurationOf (now (image .entry))) (marksOf (now (image .entry))) ⌝ }
 {
     let locations = bytes16(image, LOCATIONS);
     let last_ports = bytes16(image, LAST_PORTS);
     let values = values64(image);
+    let oracles = bytes4(image);
     Run {
         locations: locations,
         last_ports: last_ports,
         values: values,
-        oracle: image[ORACLE],
+        oracles: oracles,
         marks: u64_at(image, MARKS),
     }
 }
 
-// No run.
-fn blank() -> Run
-    ensures { λ r. ⌜ r ≡ blankRun ⌝ }
-{
-    Run {
-        locations: [0; 16],
-        last_ports: [0; 16],
-        values: [0; 64],
-        oracle: 0,
-        marks: 0,
-    }
-}
-
-// The run that an image holds; no run where it has not an image's length.
-pub fn load(image: &[u8]) -> Run
-    ensures { λ r. ⌜ r ≡ loaded (now (image .entry)) ⌝ }
-{
-    if image.len() != LENGTH {
-        return blank();
-    }
-    unpacked(image)
-}
-
 // Writes the first sixteen bytes of an image.
-fn put_head(plan: &[u8], image: &mut [u8], oracle: u8)
+fn put_head(plan: &[u8], image: &mut [u8], oracles: [u8; 4])
     requires { ⌜ planRefusal (now plan) ≡ 0 ⌝ }
     requires { ⌜ length (now image) ≡ imageLength ⌝ }
-    ensures { λ r. ⌜ now (image .exit) ≡ splice (now (image .entry)) 0 (head (now (plan .entry)) oracle) ⌝ }
+    ensures { λ r. ⌜ now (image .exit) ≡ splice (now (image .entry)) 0 (head (now (plan .entry)) oracles) ⌝ }
 {
     let rest = [
         1,
         component_byte(plan),
         variable_byte(plan),
         interaction_byte(plan),
-        oracle,
-        0,
-        0,
-        0,
+        oracles[0],
+        oracles[1],
+        oracles[2],
+        oracles[3],
         number_byte(plan, 0),
         number_byte(plan, 1),
         number_byte(plan, 2),
@@ -147,14 +137,14 @@ pub fn store<'a>(
     locations: &'a [u8; 16],
     ports: &'a [u8; 16],
     values: &'a [i32; 64],
-    oracle: u8,
+    oracles: [u8; 4],
     crossed: u64,
 )
     requires { ⌜ planRefusal (now plan) ≡ 0 ⌝ }
     requires { ⌜ (length (now image) ≡ imageLength) × Sized (now locations) (now ports) (now values) ⌝ }
-    ensures { λ r. ⌜ now (image .exit) ≡ imageOf (now (plan .entry)) (lent (now (locations .entry)) (now (ports .entry)) (now (values .entry)) oracle) crossed ⌝ }
+    ensures { λ r. ⌜ now (image .exit) ≡ imageOf (now (plan .entry)) (lent (now (locations .entry)) (now (ports .entry)) (now (values .entry)) oracles) crossed ⌝ }
 {
-    put_head(plan, image, oracle);
+    put_head(plan, image, oracles);
     put_u64(image, MARKS, crossed);
     put_bytes(image, LOCATIONS, locations);
     put_bytes(image, LAST_PORTS, ports);
@@ -198,16 +188,16 @@ fn start_values(plan: &[u8]) -> [i32; 64]
 // The run as it starts, its first event not yet read.
 pub fn starting(plan: &[u8]) -> Run
     requires { ⌜ planRefusal (now plan) ≡ 0 ⌝ }
-    ensures { λ r. ⌜ r ≡ runOf (record { state = initialState (now (plan .entry)); oracle = firstOracle (now (plan .entry)) }) 0 ⌝ }
+    ensures { λ r. ⌜ r ≡ runOf (record { state = initialState (now (plan .entry)); oracles = startStates (now (plan .entry)) }) 0 ⌝ }
 {
     let locations = start_locations(plan);
     let values = start_values(plan);
-    let oracle = first_oracle_byte(plan);
+    let first = first_oracle_byte(plan);
     Run {
         locations: locations,
         last_ports: [255; 16],
         values: values,
-        oracle: oracle,
+        oracles: [first, 0, 0, 0],
         marks: 0,
     }
 }

@@ -5,11 +5,13 @@ use native.Mathlib.Omega.{arith}
 use mathlib.Core.Bool.{Bool, true}
 use mathlib.Core.List.{_++_}
 use lib.ListN.{length}
-use lib.Dec.{eqb}
+use lib.Dec.{ltb, eqb}
 use Rattle.semantics.specs.Bytes.{every}
-use Rattle.semantics.specs.Plan.{Plan, components, variables, transitions, interactions, propositions, oracleStates, codeWords, letters, section, sectionSize, sectionStart}
-use Rattle.semantics.specs.Rules.{headOk, countsOk, layoutOk, within, headerRules, tableRules, codeRules, planRules, planRefusal}
-use Rattle.semantics.proofs.Basics.{each, leb-true, eqb-true, every-at}
+use Rattle.semantics.specs.Plan.{Plan, components, variables, transitions, interactions, propositions, maxOracles, oracles, oracleStates, statesBefore, codeWords, letters, section, sectionSize, sectionStart}
+use Rattle.semantics.specs.Rules.{headOk, stateCountOk, countsOk, layoutOk, within, headerRules, tableRules, codeRules, planRules, planRefusal}
+use Rattle.semantics.proofs.Basics.{bool-cases, each, leb-true, ltb-true, ltb-false, eqb-true, every-at}
+use Rattle.semantics.proofs.AcceptedPlan.{Counts, counts-of}
+use Rattle.semantics.proofs.Oracles.{used-count, unused-count}
 use Rattle.semantics.specs.Refusal.{refusal}
 use Rattle.semantics.proofs.Refusing.{numbered, refusal-before}
 use Rattle.semantics.proofs.RuleLists.{keeps, rule-kept}
@@ -53,14 +55,29 @@ ends p e =
       s7 = section-is p e 7 (omega arith);
     }
 
+states-low : (p : Plan) (n : ℕ) → stateCountOk p n ≡ true → oracleStates p n ≤ 32
+unfolding within
+states-low p n e =
+    bool-cases (ltb n (oracles p)) (λ t. leb-true (oracleStates p n) 32 (each _ (sym (used-count p n (ltb-true n (oracles p) t)) ∙ e) .1 .0))
+    (λ t. let z = eqb-true (oracleStates p n) 0 (sym (unused-count p n (ltb-false n (oracles p) t)) ∙ e) in omega (arith, z))
+
+all-low : (p : Plan) → Counts p → statesBefore p maxOracles ≤ 128
+unfolding statesBefore
+all-low p c =
+    let s0 = states-low p 0 (c .state-count 0 (omega arith)) in
+    let s1 = states-low p 1 (c .state-count 1 (omega arith)) in
+    let s2 = states-low p 2 (c .state-count 2 (omega arith)) in
+    let s3 = states-low p 3 (c .state-count 3 (omega arith)) in
+    omega (arith, s0, s1, s2, s3)
+
 pub laid : (p : Plan) → headOk p ≡ true → countsOk p ≡ true → layoutOk p ≡ true → Laid p
 unfolding countsOk within sectionStart sectionSize
 laid p h c l =
-    let (n, (v, (t, (i, (o, (q, (_, (w, _)))))))) = each _ c in
+    let (n, (v, (t, (i, (o, (_, (_, (w, _)))))))) = each _ c in
     let (_, (n≤, _)) = each _ n in
     let (_, (i≤, _)) = each _ i in
-    let (_, (q≤, _)) = each _ q in
     let e : Ends p = ends p l in
+    let few = all-low p (counts-of p c) in
     record {
       long = header-in p h;
       components≤ = leb-true _ _ n≤;
@@ -68,7 +85,8 @@ laid p h c l =
       transitions≤ = leb-true _ _ t;
       interactions≤ = leb-true _ _ i≤;
       propositions≤ = leb-true _ _ o;
-      states≤ = leb-true _ _ q≤;
+      oracles≤ = counts-of p c .oracles≤;
+      states≤ = few;
       words≤ = leb-true _ _ w;
       component-in = omega arith;
       variable-in = omega arith;

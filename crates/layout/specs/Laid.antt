@@ -2,7 +2,7 @@
 -- after these three ask for this record and nothing else.
 use Prim.Native.Nat.{ℕ, _+_, _*_, _≤_}
 use lib.ListN.{length}
-use Rattle.semantics.specs.Plan.{Plan, maxComponents, maxVariables, maxInteractions, components, variables, transitions, interactions, propositions, oracleStates, codeWords, letters, section}
+use Rattle.semantics.specs.Plan.{Plan, maxComponents, maxVariables, maxInteractions, maxOracles, components, variables, transitions, interactions, propositions, oracles, statesBefore, codeWords, letters, section}
 
 pub record Laid (p : Plan) : Type 0 where
   pub long : 48 ≤ length p
@@ -11,7 +11,8 @@ pub record Laid (p : Plan) : Type 0 where
   pub transitions≤ : transitions p ≤ 256
   pub interactions≤ : interactions p ≤ maxInteractions
   pub propositions≤ : propositions p ≤ 4
-  pub states≤ : oracleStates p ≤ 32
+  pub oracles≤ : oracles p ≤ maxOracles
+  pub states≤ : statesBefore p maxOracles ≤ 128
   pub words≤ : codeWords p ≤ 4096
   pub component-in : section p 0 + 4 * components p ≤ length p
   pub variable-in : section p 1 + 8 * variables p ≤ length p
@@ -19,5 +20,5 @@ pub record Laid (p : Plan) : Type 0 where
   pub interaction-in : section p 3 + 24 * interactions p ≤ length p
   pub rank-in : section p 4 + 8 * interactions p ≤ length p
   pub proposition-in : section p 5 + 4 * propositions p ≤ length p
-  pub oracle-in : section p 6 + (1 + letters p) * oracleStates p ≤ length p
+  pub oracle-in : section p 6 + (1 + letters p) * statesBefore p maxOracles ≤ length p
   pub code-in : section p 7 + 2 * codeWords p ≤ length p

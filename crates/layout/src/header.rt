@@ -1,10 +1,13 @@
 // The header of a plan: its number, its counts, the places of its sections.
 use words::bytes::field;
 use words::bytes::u16_at;
+use words::bytes::u32_at;
+use words::bytes::wide;
 ghost use mathlib.Core.Path.{_≡_};
 ghost use Prim.Native.Nat.{_+_, _≤_, _<_};
 ghost use lib.ListN.{length};
-ghost use Rattle.semantics.specs.Plan.{numberByte, reservedByte, totalLength, components, variables, transitions, interactions, propositions, oracleStates, firstOracle, codeWords, letters, section};
+ghost use Rattle.semantics.specs.Bytes.{u32};
+ghost use Rattle.semantics.specs.Plan.{numberByte, reservedByte, totalLength, components, variables, transitions, maxOracles, interactions, propositions, firstOracle, addedOracles, oracles, oracleStates, statesBefore, codeWords, letters, section};
 ghost use Rattle.layout.specs.Laid.{Laid};
 
 // How long the header is.
@@ -20,10 +23,10 @@ pub fn number_byte(plan: &[u8], k: usize) -> u8
 
 // Byte k of those that are zero.
 pub fn reserved_byte(plan: &[u8], k: usize) -> u8
-    requires { ⌜ (48 ≤ length (now plan)) × (k < 6) ⌝ }
+    requires { ⌜ (48 ≤ length (now plan)) × (k < 2) ⌝ }
     ensures { λ r. ⌜ r ≡ reservedByte (now (plan .entry)) k ⌝ }
 {
-    plan[42 + k]
+    plan[46 + k]
 }
 
 pub fn total_length(plan: &[u8]) -> usize
@@ -76,13 +79,6 @@ pub fn propositions(plan: &[u8]) -> usize
     field(plan, 18)
 }
 
-pub fn oracle_states(plan: &[u8]) -> usize
-    requires { ⌜ 48 ≤ length (now plan) ⌝ }
-    ensures { λ r. ⌜ (r ≡ oracleStates (now (plan .entry))) × (r < 65536) ⌝ }
-{
-    field(plan, 20)
-}
-
 pub fn first_oracle(plan: &[u8]) -> usize
     requires { ⌜ 48 ≤ length (now plan) ⌝ }
     ensures { λ r. ⌜ (r ≡ firstOracle (now (plan .entry))) × (r < 65536) ⌝ }
@@ -95,6 +91,53 @@ pub fn code_words(plan: &[u8]) -> usize
     ensures { λ r. ⌜ (r ≡ codeWords (now (plan .entry))) × (r < 65536) ⌝ }
 {
     field(plan, 24)
+}
+
+// How many oracles are added to the first one.
+pub fn added_oracles(plan: &[u8]) -> usize
+    requires { ⌜ 48 ≤ length (now plan) ⌝ }
+    ensures { λ r. ⌜ (r ≡ addedOracles (now (plan .entry))) × (r < 256) ⌝ }
+{
+    wide(plan[42])
+}
+
+// How many oracles are added, and the states of each, as one number.
+pub fn added_word(plan: &[u8]) -> u32
+    requires { ⌜ 48 ≤ length (now plan) ⌝ }
+    ensures { λ r. ⌜ r ≡ u32 (now (plan .entry)) 42 ⌝ }
+{
+    u32_at(plan, 42)
+}
+
+// How many oracles there are in all.
+pub fn oracles(plan: &[u8]) -> usize
+    requires { ⌜ 48 ≤ length (now plan) ⌝ }
+    ensures { λ r. ⌜ (r ≡ oracles (now (plan .entry))) × (r ≤ 256) ⌝ }
+{
+    1 + added_oracles(plan)
+}
+
+// How many states oracle n has.
+pub fn oracle_states(plan: &[u8], n: usize) -> usize
+    requires { ⌜ (48 ≤ length (now plan)) × (n < maxOracles) ⌝ }
+    ensures { λ r. ⌜ (r ≡ oracleStates (now (plan .entry)) n) × (r < 65536) ⌝ }
+{
+    if n == 0 {
+        return field(plan, 20);
+    }
+    wide(plan[42 + n])
+}
+
+// How many states all oracles have together.
+pub fn all_states(plan: &[u8]) -> usize
+    requires { ⌜ 48 ≤ length (now plan) ⌝ }
+    ensures { λ r. ⌜ (r ≡ statesBefore (now (plan .entry)) maxOracles) × (r < 262144) ⌝ }
+{
+    let first = oracle_states(plan, 0);
+    if added_word(plan) == 0 {
+        return first;
+    }
+    first + oracle_states(plan, 1) + oracle_states(plan, 2) + oracle_states(plan, 3)
 }
 
 // Where section n begins.

@@ -7,7 +7,7 @@ ghost use Rattle.semantics.specs.Image.{imageLength, valuePlace};
 // The length of an image.
 pub const LENGTH: usize = 312;
 
-// What the head holds after the letters: form, counts, oracle state, three zeros, the plan's number.
+// What the head holds after the letters: form, counts, the oracles' states, the plan's number.
 pub const FORM: usize = 4;
 
 pub const COMPONENTS: usize = 5;
@@ -16,9 +16,7 @@ pub const VARIABLES: usize = 6;
 
 pub const INTERACTIONS: usize = 7;
 
-pub const ORACLE: usize = 8;
-
-pub const RESERVED: usize = 9;
+pub const ORACLES: usize = 8;
 
 pub const PLAN_NUMBER: usize = 12;
 

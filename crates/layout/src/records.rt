@@ -7,7 +7,7 @@ use words::bytes::u64_at;
 ghost use mathlib.Core.Path.{_≡_};
 ghost use Prim.Native.Nat.{_+_, _*_, _≤_, _<_};
 ghost use lib.ListN.{length};
-ghost use Rattle.semantics.specs.Plan.{components, variables, transitions, interactions, propositions, oracleStates, codeWords, letters, section, componentAt, variableAt, transitionAt, interactionAt, rankRow, propositionAt, oracleAt, spanAt, word};
+ghost use Rattle.semantics.specs.Plan.{components, variables, transitions, interactions, propositions, maxOracles, statesBefore, codeWords, letters, section, componentAt, variableAt, transitionAt, interactionAt, rankRow, propositionAt, rowAt, spanAt, word};
 ghost use Rattle.layout.specs.Laid.{Laid};
 
 // A component's record: its locations, then these. The last byte is zero.
@@ -81,14 +81,14 @@ pub fn proposition_at(plan: &[u8], k: usize) -> usize
     section(plan, 5) + 4 * k
 }
 
-// The row of oracle state q: its verdict, then the next state for each letter.
+// A row of the oracles' tables: a state's verdict, then the next state for each letter. The rows of all oracles are counted through.
 pub const NEXT: usize = 1;
 
-pub fn oracle_at(plan: &[u8], q: usize) -> usize
-    requires { ⌜ Laid (now plan) × (q < oracleStates (now plan)) ⌝ }
-    ensures { λ r. ⌜ (r ≡ oracleAt (now (plan .entry)) q) × (r + (1 + letters (now (plan .entry))) ≤ length (now (plan .entry))) ⌝ }
+pub fn row_at(plan: &[u8], row: usize) -> usize
+    requires { ⌜ Laid (now plan) × (row < statesBefore (now plan) maxOracles) ⌝ }
+    ensures { λ r. ⌜ (r ≡ rowAt (now (plan .entry)) row) × (r + (1 + letters (now (plan .entry))) ≤ length (now (plan .entry))) ⌝ }
 {
-    section(plan, 6) + (1 + letters(plan)) * q
+    section(plan, 6) + (1 + letters(plan)) * row
 }
 
 // A span's record: its start, then its size.

@@ -1,2 +1,3 @@
 pub mod FireLaws
+pub mod Judging
 pub mod SearchLaws

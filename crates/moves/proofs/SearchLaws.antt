@@ -8,17 +8,17 @@ use lib.ListN.{length}
 use lib.IntN.{ℤ}
 use Rattle.semantics.specs.Bytes.{allOf, lowest, bit}
 use Rattle.semantics.specs.Plan.{Plan}
-use Rattle.semantics.specs.Move.{Configuration, oracleGood, good}
+use Rattle.semantics.specs.Move.{Configuration, oraclesGood, good}
 use Rattle.semantics.specs.Code.{State, site}
 use Rattle.lane.specs.Runs.{Sized}
 use Rattle.semantics.proofs.Basics.{implies-at, not-yes, all-of, lowest-is, lowest-unique}
 use Rattle.semantics.proofs.Masks.{bit-zero}
 use Rattle.words.proofs.MaskWalk.{Walk, walk-at}
 
--- a configuration is good by its oracle state
-pub ends-good : (p : Plan) (c d : Configuration) → c ≡ d → oracleGood p (c .oracle) ≡ good p d
+-- a configuration is good by the states of its oracles
+pub ends-good : (p : Plan) (c d : Configuration) → c ≡ d → oraclesGood p (c .oracles) ≡ good p d
 unfolding good
-ends-good p c d e = ap (λ (x : Configuration). oracleGood p (x .oracle)) e
+ends-good p c d e = ap (λ (x : Configuration). oraclesGood p (x .oracles)) e
 
 -- arrays that hold the same state are of the same size
 pub sized-same : (l q : List ℕ) (v : List ℤ) (s : State) → site l q v ≡ s → Sized (s .locations) (s .lastPorts) (s .values) → Sized l q v

@@ -1,4 +1,4 @@
-// The event of a state, what the oracle makes of it, and the configuration after a move.
+// The event of a state, what the oracles make of it, and the configuration after a move.
 use crate::fire;
 use code::eval;
 use layout::header::propositions;
@@ -10,7 +10,7 @@ ghost use mathlib.Core.Bool.{true};
 ghost use Prim.Native.Nat.{_+_, _<_};
 ghost use Rattle.semantics.specs.Plan.{interactions, letters};
 ghost use Rattle.semantics.specs.Rules.{planRefusal};
-ghost use Rattle.semantics.specs.Move.{enabled, letter, judged, after, oracleInRange};
+ghost use Rattle.semantics.specs.Move.{enabled, letter, judged, after, oraclesInRange};
 ghost use Rattle.choices.specs.Choices.{chosenTable};
 ghost use Rattle.semantics.specs.Code.{site};
 ghost use Rattle.lane.specs.Runs.{lent, Sized};
@@ -32,38 +32,38 @@ pub fn letter(plan: &[u8], locations: &[u8; 16], ports: &[u8; 16], values: &[i32
     out as usize
 }
 
-// The oracle's state when it has read the event of a state.
+// The oracles' states when they have read the event of a state.
 pub fn judge<'a>(
     plan: &[u8],
     locations: &'a [u8; 16],
     ports: &'a [u8; 16],
     values: &'a [i32; 64],
-    oracle: u8,
-) -> u8
+    oracles: [u8; 4],
+) -> [u8; 4]
     requires { ⌜ planRefusal (now plan) ≡ 0 ⌝ }
-    requires { ⌜ oracleInRange (now plan) oracle ≡ true ⌝ }
-    ensures { λ r. ⌜ (lent (now (locations .entry)) (now (ports .entry)) (now (values .entry)) r ≡ judged (now (plan .entry)) oracle (site (now (locations .entry)) (now (ports .entry)) (now (values .entry)))) × (oracleInRange (now (plan .entry)) r ≡ true) ⌝ }
+    requires { ⌜ oraclesInRange (now plan) oracles ≡ true ⌝ }
+    ensures { λ r. ⌜ (lent (now (locations .entry)) (now (ports .entry)) (now (values .entry)) r ≡ judged (now (plan .entry)) oracles (site (now (locations .entry)) (now (ports .entry)) (now (values .entry)))) × (oraclesInRange (now (plan .entry)) r ≡ true) ⌝ }
 {
-    let event = letter(plan, locations, ports, values);
-    row::next(plan, oracle, event)
+    row::next_states(plan, oracles, letter(plan, locations, ports, values))
 }
 
-// Makes the state that of after interaction i, and gives the oracle's, the event read; the table of choices is that of the state before it.
+// Makes the state that of after interaction i, and gives the oracles', the event read; the table of choices is that of the state before it.
 pub fn after(
     plan: &[u8],
     locations: &mut [u8; 16],
     ports: &mut [u8; 16],
     values: &mut [i32; 64],
-    oracle: u8,
+    oracles: [u8; 4],
     chosen: &[u16; 256],
     i: usize,
-) -> u8
+) -> [u8; 4]
     requires { ⌜ planRefusal (now plan) ≡ 0 ⌝ }
     requires { ⌜ (i < interactions (now plan)) × (now chosen ≡ chosenTable (now plan) (site (now locations) (now ports) (now values))) × (enabled (now plan) (site (now locations) (now ports) (now values)) i ≡ true) ⌝ }
-    requires { ⌜ (oracleInRange (now plan) oracle ≡ true) × Sized (now locations) (now ports) (now values) ⌝ }
+    requires { ⌜ (oraclesInRange (now plan) oracles ≡ true) × Sized (now locations) (now ports) (now values) ⌝ }
     ensures { λ r. ⌜ Sized (now (locations .exit)) (now (ports .exit)) (now (values .exit)) ⌝ }
-    ensures { λ r. ⌜ (lent (now (locations .exit)) (now (ports .exit)) (now (values .exit)) r ≡ after (now (plan .entry)) (lent (now (locations .entry)) (now (ports .entry)) (now (values .entry)) oracle) i) × (oracleInRange (now (plan .entry)) r ≡ true) ⌝ }
+    ensures { λ r. ⌜ (lent (now (locations .exit)) (now (ports .exit)) (now (values .exit)) r ≡ after (now (plan .entry)) (lent (now (locations .entry)) (now (ports .entry)) (now (values .entry)) oracles) i) × (oraclesInRange (now (plan .entry)) r ≡ true) ⌝ }
 {
     fire::fire(plan, locations, ports, values, chosen, i);
-    judge(plan, locations, ports, values, oracle)
+    let event = letter(plan, locations, ports, values);
+    row::next_states(plan, oracles, event)
 }

@@ -11,14 +11,14 @@ ghost use Rattle.semantics.specs.Bytes.{allOf, lowest, bit};
 ghost use Rattle.semantics.specs.Plan.{interactions};
 ghost use Rattle.semantics.specs.Code.{site};
 ghost use Rattle.semantics.specs.Rules.{planRefusal};
-ghost use Rattle.semantics.specs.Move.{enabled, after, oracleInRange, good};
+ghost use Rattle.semantics.specs.Move.{enabled, after, oraclesInRange, good};
 ghost use Rattle.choices.specs.Choices.{chosenTable};
 ghost use Rattle.lane.specs.Runs.{lent, Sized};
 
-// A move and the oracle's state after it; where no move was found, the number of interactions and the oracle's state as it was.
+// A move and the oracles' states after it; where no move was found, the number of interactions and the states as they were.
 pub struct Found {
     pub number: usize,
-    pub oracle: u8,
+    pub oracles: [u8; 4],
 }
 
 // The lowest move of the mask that ends good, each of which is enabled; the table of choices is that of the state. The state after it is left in three
@@ -28,7 +28,7 @@ pub fn lowest_good<'a>(
     locations: &'a [u8; 16],
     ports: &'a [u8; 16],
     values: &'a [i32; 64],
-    oracle: u8,
+    oracles: [u8; 4],
     chosen: &[u16; 256],
     moves: u64,
     places: &mut [u8; 16],
@@ -36,23 +36,23 @@ pub fn lowest_good<'a>(
     numbers: &mut [i32; 64],
 ) -> Found
     requires { ⌜ planRefusal (now plan) ≡ 0 ⌝ }
-    requires { ⌜ (now chosen ≡ chosenTable (now plan) (site (now locations) (now ports) (now values))) × (oracleInRange (now plan) oracle ≡ true) ⌝ }
+    requires { ⌜ (now chosen ≡ chosenTable (now plan) (site (now locations) (now ports) (now values))) × (oraclesInRange (now plan) oracles ≡ true) ⌝ }
     requires { ⌜ Sized (now locations) (now ports) (now values) × (site (now places) (now last) (now numbers) ≡ site (now locations) (now ports) (now values)) ⌝ }
     requires { ⌜ ((j : ℕ) → bit moves j ≡ true → (j < interactions (now plan)) × (enabled (now plan) (site (now locations) (now ports) (now values)) j ≡ true)) ⌝ }
     ensures { λ r. ⌜ Sized (now (places .exit)) (now (last .exit)) (now (numbers .exit)) ⌝ }
-    ensures { λ r. ⌜ r .number ≡ lowest (interactions (now (plan .entry))) (λ j. allOf (bit moves j ∷ good (now (plan .entry)) (after (now (plan .entry)) (lent (now (locations .entry)) (now (ports .entry)) (now (values .entry)) oracle) j) ∷ [])) ⌝ }
-    ensures { λ r. ⌜ (r .number < interactions (now (plan .entry)) → lent (now (places .exit)) (now (last .exit)) (now (numbers .exit)) (r .oracle) ≡ after (now (plan .entry)) (lent (now (locations .entry)) (now (ports .entry)) (now (values .entry)) oracle) (r .number)) ⌝ }
-    ensures { λ r. ⌜ (interactions (now (plan .entry)) ≤ r .number → lent (now (places .exit)) (now (last .exit)) (now (numbers .exit)) (r .oracle) ≡ lent (now (locations .entry)) (now (ports .entry)) (now (values .entry)) oracle) ⌝ }
+    ensures { λ r. ⌜ r .number ≡ lowest (interactions (now (plan .entry))) (λ j. allOf (bit moves j ∷ good (now (plan .entry)) (after (now (plan .entry)) (lent (now (locations .entry)) (now (ports .entry)) (now (values .entry)) oracles) j) ∷ [])) ⌝ }
+    ensures { λ r. ⌜ (r .number < interactions (now (plan .entry)) → lent (now (places .exit)) (now (last .exit)) (now (numbers .exit)) (r .oracles) ≡ after (now (plan .entry)) (lent (now (locations .entry)) (now (ports .entry)) (now (values .entry)) oracles) (r .number)) ⌝ }
+    ensures { λ r. ⌜ (interactions (now (plan .entry)) ≤ r .number → lent (now (places .exit)) (now (last .exit)) (now (numbers .exit)) (r .oracles) ≡ lent (now (locations .entry)) (now (ports .entry)) (now (values .entry)) oracles) ⌝ }
 {
     let mut left = moves;
     while left != 0 {
         let rest = bits::without_lowest(left);
         let n = bits::lowest_bit(left);
-        let q = judge::after(plan, places, last, numbers, oracle, chosen, n);
+        let q = judge::after(plan, places, last, numbers, oracles, chosen, n);
         if row::good(plan, q) {
             return Found {
                 number: n,
-                oracle: q,
+                oracles: q,
             };
         }
         let old_places = *locations;
@@ -65,6 +65,6 @@ pub fn lowest_good<'a>(
     }
     Found {
         number: interactions(plan),
-        oracle: oracle,
+        oracles: oracles,
     }
 }

@@ -1,1 +1,2 @@
+pub mod OracleLoops
 pub mod Verdicts

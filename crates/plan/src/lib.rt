@@ -1,4 +1,5 @@
-// The check of a plan: refusals 1 to 10 in order, of its header, its tables and its code.
+// The check of a plan: refusals 1 to 10, with 20 before 10, in order, of its header, its tables and its code.
+use layout::header::added_oracles;
 use oracle::rule;
 use tables::header;
 use tables::ranks;
@@ -27,7 +28,7 @@ fn header_refusal(plan: &[u8]) -> u8
     0
 }
 
-// The first refusal of the tables, 4 to 9.
+// The first refusal of the tables, 4 to 9 and 20.
 fn table_refusal(plan: &[u8]) -> u8
     requires { ⌜ Laid (now plan) ⌝ }
     ensures { λ r. ⌜ r ≡ refusal (tableRules (now (plan .entry))) ⌝ }
@@ -47,8 +48,14 @@ fn table_refusal(plan: &[u8]) -> u8
     if !ranks::ranks_ok(plan) {
         return 8;
     }
-    if !rule::oracle_ok(plan) {
+    if !rule::first_ok(plan) {
         return 9;
+    }
+    if added_oracles(plan) == 0 {
+        return 0;
+    }
+    if !rule::added_ok(plan) {
+        return 20;
     }
     0
 }

@@ -1,15 +1,14 @@
 -- What an accepted plan keeps, rule by rule: from `planRefusal p ≡ 0`.
 use mathlib.Core.Path.{_≡_, refl}
-use Prim.Native.Nat.{ℕ, _≤_, _<_}
-use native.Mathlib.Nat.{lt-of-lt-of-le}
+use Prim.Native.Nat.{ℕ, zero, suc, _≤_, _<_, suc-le-suc}
+use native.Mathlib.Nat.{lt-of-lt-of-le, le-of-suc-le-suc}
 use mathlib.Core.Bool.{Bool, true}
 use lib.Pow.{pow-mono}
-use Rattle.semantics.specs.Bytes.{mask}
-use Rattle.semantics.specs.Plan.{Plan, maxComponents, maxVariables, maxInteractions, components, variables, transitions, interactions, propositions, oracleStates, firstOracle, componentOf, guardOf, actionOf, interactionGuard, transferOf, propositionOf}
+use Rattle.semantics.specs.Bytes.{every, mask}
+use Rattle.semantics.specs.Plan.{Plan, maxComponents, maxVariables, maxInteractions, maxOracles, components, variables, transitions, interactions, propositions, addedOracles, oracles, oracleStates, firstOracle, componentOf, guardOf, actionOf, interactionGuard, transferOf, propositionOf}
 use Rattle.semantics.specs.Code.{asGuard, asUpdate, asProposition, ownedBy, sharedIn, declared, spanOk}
-use Rattle.semantics.specs.Rules.{headOk, countsOk, layoutOk, componentOk, variableOk, transitionOk, interactionOk, rankOk, oracleOk, codeOk, transitionCode, interactionCode, propositionCode, planRules, planRefusal, within}
-use Rattle.semantics.specs.Move.{oracleInRange}
-use Rattle.semantics.proofs.Basics.{each, every-at, leb-true}
+use Rattle.semantics.specs.Rules.{headOk, stateCountOk, oracleCountsOk, countsOk, layoutOk, componentOk, variableOk, transitionOk, interactionOk, rankOk, oracleOk, tableOk, codeOk, transitionCode, interactionCode, propositionCode, planRules, planRefusal, within}
+use Rattle.semantics.proofs.Basics.{each, every-at, leb-true, ltb-true}
 use Rattle.semantics.proofs.Masks.{mask-lt}
 use Rattle.semantics.proofs.Refusing.{numbered}
 use Rattle.semantics.proofs.RuleLists.{keeps, rule-kept}
@@ -23,7 +22,7 @@ pub record Accepted (p : Plan) : Type 0 where
   pub transition : (t : ℕ) → t < transitions p → transitionOk p t ≡ true
   pub interaction : (i : ℕ) → i < interactions p → interactionOk p i ≡ true
   pub rank : (i : ℕ) → i < interactions p → rankOk p i ≡ true
-  pub oracle : (q : ℕ) → q < oracleStates p → oracleOk p q ≡ true
+  pub oracle : (n : ℕ) → n < oracles p → (q : ℕ) → q < oracleStates p n → oracleOk p n q ≡ true
   pub code : codeOk p ≡ true
 
 pub plan-numbered : (p : Plan) → numbered (planRules p) ≡ true
@@ -31,7 +30,7 @@ unfolding numbered planRules
 plan-numbered p = refl
 
 pub accepted-plan : (p : Plan) → planRefusal p ≡ 0 → Accepted p
-unfolding planRefusal planRules keeps
+unfolding planRefusal planRules keeps tableOk
 accepted-plan p e =
     let kept : (n : ℕ) → keeps n (planRules p) ≡ true = rule-kept (planRules p) (plan-numbered p) e in
     record {
@@ -43,9 +42,14 @@ accepted-plan p e =
       transition = every-at (transitions p) (transitionOk p) (kept 6);
       interaction = every-at (interactions p) (interactionOk p) (kept 7);
       rank = every-at (interactions p) (rankOk p) (kept 8);
-      oracle = every-at (oracleStates p) (oracleOk p) (kept 9);
+      oracle = λ n h. every-at (oracleStates p n) (oracleOk p n) (tables (kept 9) (kept 20) n h);
       code = kept 10;
     }
+  where
+    -- 9 and 20: the table of each oracle
+    tables : tableOk p 0 ≡ true → every (addedOracles p) (λ k. tableOk p (suc k)) ≡ true → (n : ℕ) → n < oracles p → tableOk p n ≡ true
+    tables first added zero h = first
+    tables first added (suc k) h = every-at (addedOracles p) (λ j. tableOk p (suc j)) added k (le-of-suc-le-suc h)
 
 -- ---- the counts
 
@@ -54,12 +58,15 @@ pub record Counts (p : Plan) : Type 0 where
   pub variables≤ : variables p ≤ maxVariables
   pub interactions≤ : interactions p ≤ maxInteractions
   pub propositions≤ : propositions p ≤ 4
-  pub first : oracleInRange p (firstOracle p) ≡ true
+  pub oracles≤ : oracles p ≤ maxOracles
+  pub state-count : (n : ℕ) → n < maxOracles → stateCountOk p n ≡ true
+  pub first< : firstOracle p < oracleStates p 0
 
 pub counts-of : (p : Plan) → countsOk p ≡ true → Counts p
-unfolding countsOk within oracleInRange
+unfolding countsOk oracleCountsOk within
 counts-of p e =
-    let (c, (v, (_, (i, (o, (_, (f, _))))))) = each _ e in
+    let (c, (v, (_, (i, (o, (q, (f, _))))))) = each _ e in
+    let (a, (s, _)) = each _ q in
     let (_, (c≤, _)) = each _ c in
     let (_, (i≤, _)) = each _ i in
     record {
@@ -67,7 +74,9 @@ counts-of p e =
       variables≤ = leb-true _ _ v;
       interactions≤ = leb-true _ _ i≤;
       propositions≤ = leb-true _ _ o;
-      first = f;
+      oracles≤ = suc-le-suc (leb-true _ _ a);
+      state-count = every-at maxOracles (stateCountOk p) s;
+      first< = ltb-true _ _ f;
     }
 
 -- a mask of the plan's interactions is a 64-bit number

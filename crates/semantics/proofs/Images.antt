@@ -8,22 +8,22 @@ use mathlib.Core.List.{List, [], _∷_, _++_, append-assoc}
 use lib.ListN.{length, getD, take, drop, length-append}
 use lib.Seq.{take-at, drop-at, getD-append-add, ext-getD}
 use lib.IntN.{ℤ, pos, negsuc}
-use Rattle.semantics.specs.Bytes.{byte, u32, u64, leBytes, every, table}
+use Rattle.semantics.specs.Bytes.{byte, u32, u64, leBytes, allOf, every, table}
 use Rattle.semantics.specs.Signed.{signed, residue, wrap}
-use Rattle.semantics.specs.Plan.{Plan, maxComponents, maxVariables}
-use Rattle.semantics.specs.Code.{State}
+use Rattle.semantics.specs.Plan.{Plan, maxComponents, maxVariables, maxOracles}
 use Rattle.semantics.specs.Move.{Configuration}
-use Rattle.semantics.specs.Image.{imageLength, head, valueBytes, image, withMarks, marksOf, configurationOf, headMatches}
-use Rattle.semantics.proofs.Basics.{length-table, getD-table, eqb-same}
+use Rattle.semantics.specs.Image.{imageLength, head, valueBytes, image, withMarks, marksOf, configurationOf, oracleByte, headMatches}
+use Rattle.semantics.proofs.Basics.{length-table, getD-table, table-is, eqb-same}
 use Rattle.semantics.proofs.Masks.{length-leBytes, u32-back}
 use Rattle.semantics.proofs.Evaluator.{Words}
 
--- a state whose lists are as long as the image has room, each value a signed 32-bit number
-pub record Shaped (s : State) : Type 0 where
-  pub locations-16 : length (s .locations) ≡ maxComponents
-  pub ports-16 : length (s .lastPorts) ≡ maxComponents
-  pub values-64 : length (s .values) ≡ maxVariables
-  pub words : Words (s .values)
+-- a configuration whose lists are as long as the image has room, each value a signed 32-bit number
+pub record Shaped (c : Configuration) : Type 0 where
+  pub oracles-4 : length (c .oracles) ≡ maxOracles
+  pub locations-16 : length (c .state .locations) ≡ maxComponents
+  pub ports-16 : length (c .state .lastPorts) ≡ maxComponents
+  pub values-64 : length (c .state .values) ≡ maxVariables
+  pub words : Words (c .state .values)
 
 -- ---- values
 
@@ -63,15 +63,15 @@ length-valueBytes (x ∷ xs) =
 
 -- all before the values
 front : Plan → Configuration → ℕ → List ℕ
-front p c m = head p (c .oracle) ++ leBytes 8 m ++ c .state .locations ++ c .state .lastPorts
+front p c m = head p (c .oracles) ++ leBytes 8 m ++ c .state .locations ++ c .state .lastPorts
 
-length-front : (p : Plan) (c : Configuration) (m : ℕ) → Shaped (c .state) → length (front p c m) ≡ 56
+length-front : (p : Plan) (c : Configuration) (m : ℕ) → Shaped c → length (front p c m) ≡ 56
 unfolding front head leBytes
 length-front p c m h =
     let e : length (c .state .locations ++ c .state .lastPorts) ≡ 32 = length-append (c .state .locations) (c .state .lastPorts) ∙ ap₂ _+_ (h .locations-16) (h .ports-16) in
     ap (λ (n : ℕ). suc (suc (suc (suc (suc (suc (suc (suc (suc (suc (suc (suc (suc (suc (suc (suc (suc (suc (suc (suc (suc (suc (suc (suc n)))))))))))))))))))))))) e
 
-pub length-image : (p : Plan) (c : Configuration) (m : ℕ) → Shaped (c .state) → length (image p c m) ≡ imageLength
+pub length-image : (p : Plan) (c : Configuration) (m : ℕ) → Shaped c → length (image p c m) ≡ imageLength
 unfolding image front
 length-image p c m h =
     length-append (front p c m) (valueBytes (c .state .values))
@@ -86,23 +86,23 @@ unfolding marksOf u64 u32 image head leBytes
 marks-back p c m h = omega arith
 
 pub head-matches : (p : Plan) (c : Configuration) (m : ℕ) → headMatches p (image p c m) ≡ true
-unfolding headMatches every image head leBytes
+unfolding headMatches oracleByte allOf every image head leBytes
 head-matches p c m = simp eqb-same
 
-locations-back : (p : Plan) (c : Configuration) (m : ℕ) → Shaped (c .state) → take maxComponents (drop 24 (image p c m)) ≡ c .state .locations
+locations-back : (p : Plan) (c : Configuration) (m : ℕ) → Shaped c → take maxComponents (drop 24 (image p c m)) ≡ c .state .locations
 unfolding image head leBytes
 locations-back p c m h =
     ap (take maxComponents) (append-assoc (c .state .locations) (c .state .lastPorts) (valueBytes (c .state .values)))
     ∙ take-at (c .state .locations) (c .state .lastPorts ++ valueBytes (c .state .values)) maxComponents (h .locations-16)
 
-ports-back : (p : Plan) (c : Configuration) (m : ℕ) → Shaped (c .state) → take maxComponents (drop 40 (image p c m)) ≡ c .state .lastPorts
+ports-back : (p : Plan) (c : Configuration) (m : ℕ) → Shaped c → take maxComponents (drop 40 (image p c m)) ≡ c .state .lastPorts
 unfolding image head leBytes
 ports-back p c m h =
     ap (λ (l : List ℕ). take maxComponents (drop maxComponents l)) (append-assoc (c .state .locations) (c .state .lastPorts) (valueBytes (c .state .values)))
     ∙ ap (take maxComponents) (drop-at (c .state .locations) (c .state .lastPorts ++ valueBytes (c .state .values)) maxComponents (h .locations-16))
     ∙ take-at (c .state .lastPorts) (valueBytes (c .state .values)) maxComponents (h .ports-16)
 
-values-back : (p : Plan) (c : Configuration) (m : ℕ) → Shaped (c .state) → table maxVariables (λ v. signed (u32 (image p c m) (56 + 4 * v))) ≡ c .state .values
+values-back : (p : Plan) (c : Configuration) (m : ℕ) → Shaped c → table maxVariables (λ v. signed (u32 (image p c m) (56 + 4 * v))) ≡ c .state .values
 unfolding image front
 values-back p c m h =
     let f : ℕ → ℤ = λ v. signed (u32 (image p c m) (56 + 4 * v)) in
@@ -113,10 +113,15 @@ values-back p c m h =
     ∙ ap signed (u32-past (front p c m) (valueBytes (c .state .values)) 56 (4 * v) (length-front p c m h))
     ∙ value-at (c .state .values) v (h .words) (subst (λ (n : ℕ). v < n) (sym (h .values-64)) k))
 
-pub configuration-back : (p : Plan) (c : Configuration) (m : ℕ) → Shaped (c .state) → configurationOf (image p c m) ≡ c
+-- the four bytes of a list of four
+four : (qs : List ℕ) → length qs ≡ maxOracles → qs ≡ getD qs 0 0 ∷ getD qs 1 0 ∷ getD qs 2 0 ∷ getD qs 3 0 ∷ []
+unfolding table
+four qs e = table-is 0 qs maxOracles (λ n. getD qs n 0) e (λ n l. refl)
+
+pub configuration-back : (p : Plan) (c : Configuration) (m : ℕ) → Shaped c → configurationOf (image p c m) ≡ c
 unfolding configurationOf image head
 configuration-back p c m h =
     λ i. record {
       state = record { locations = locations-back p c m h i; lastPorts = ports-back p c m h i; values = values-back p c m h i };
-      oracle = c .oracle;
+      oracles = sym (four (c .oracles) (h .oracles-4)) i;
     }

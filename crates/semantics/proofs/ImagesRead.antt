@@ -12,7 +12,7 @@ use Rattle.semantics.specs.Bytes.{byte, u32, leBytes, table}
 use Rattle.semantics.specs.Signed.{signed, wrap, equalZ}
 use Rattle.semantics.specs.Plan.{Plan, variables}
 use Rattle.semantics.specs.Image.{Image, imageLength, withMarks, configurationOf, valueOk, configurationOk}
-use Rattle.semantics.proofs.Basics.{bool-cases, absurd-bool, or-cases, ltb-true, ltb-false, lt-ltb, le-ltb, eqb-true, length-table, getD-table}
+use Rattle.semantics.proofs.Basics.{bool-cases, absurd-bool, or-cases, ltb-true, ltb-false, lt-ltb, le-ltb, eqb-true, length-table, getD-table, table-same, part-table}
 use Rattle.semantics.proofs.Masks.{length-leBytes}
 use Rattle.semantics.proofs.Images.{u32-past}
 use Rattle.semantics.proofs.Evaluator.{low-word, signed-word}
@@ -34,20 +34,21 @@ value-read b v P f z =
     bool-cases (ltb v 64) (λ t. let l : v < 64 = ltb-true v 64 t in subst P (sym (getD-table 64 g (pos 0) v l)) (f l))
     (λ t. subst P (sym (List·getD-eq-default (table 64 g) (pos 0) (subst (λ (n : ℕ). n ≤ v) (sym (length-table 64 g)) (ltb-false v 64 t)))) z)
 
-taken : (b : Image) (n : ℕ) → length b ≡ imageLength → n + 16 ≤ 312 → length (take 16 (drop n b)) ≡ 16
-taken b n e h = length-take-le 16 (drop n b) (subst (λ (m : ℕ). 16 ≤ m) (sym (length-drop n b ∙ ap (λ (m : ℕ). m - n) e)) (room n h))
+taken : (b : Image) (n w : ℕ) → length b ≡ imageLength → n + w ≤ 312 → length (take w (drop n b)) ≡ w
+taken b n w e h = length-take-le w (drop n b) (subst (λ (m : ℕ). w ≤ m) (sym (length-drop n b ∙ ap (λ (m : ℕ). m - n) e)) (room n w h))
   where
-    room : (n : ℕ) → n + 16 ≤ 312 → 16 ≤ 312 - n
-    room n h = omega arith
+    room : (n w : ℕ) → n + w ≤ 312 → w ≤ 312 - n
+    room n w h = omega arith
 
 -- an image of the right length that passes 13 holds a sound configuration
 pub sound-read : (p : Plan) (b : Image) → length b ≡ imageLength → configurationOk p (configurationOf b) ≡ true → Sound p (configurationOf b)
 sound-read p b e h =
     let t : Configured p (configurationOf b) = configured p (configurationOf b) h in
     record {
+      oracles-4 = unfold configurationOf in (taken b 8 4 e (omega arith));
       in-range = t .in-range;
-      locations-16 = unfold configurationOf in (taken b 24 e (omega arith));
-      ports-16 = unfold configurationOf in (taken b 40 e (omega arith));
+      locations-16 = unfold configurationOf in (taken b 24 16 e (omega arith));
+      ports-16 = unfold configurationOf in (taken b 40 16 e (omega arith));
       location = t .location;
       port = t .last-port;
       valued =
@@ -83,11 +84,20 @@ module _ (b : Image) (m : ℕ) (e : length b ≡ imageLength) where
   behind n =
       sym (drop-drop n 24 (front ++ drop 24 b)) ∙ ap (drop n) (drop-at front (drop 24 b) 24 front-long) ∙ drop-drop n 24 b
 
-  oracle-same : byte (front ++ drop 24 b) 8 ≡ byte b 8
-  oracle-same =
-      List·getD-append front (drop 24 b) 0 8 (subst (λ (n : ℕ). 8 < n) (sym front-long) (omega arith))
-      ∙ List·getD-append (take 16 b) (leBytes 8 m) 0 8 (subst (λ (n : ℕ). 8 < n) (sym (first-long 16 (omega arith))) (omega arith))
-      ∙ getD-take 16 b 8 0 (omega arith)
+  head-same : (k : ℕ) → k < 16 → byte (front ++ drop 24 b) k ≡ byte b k
+  head-same k l =
+      List·getD-append front (drop 24 b) 0 k (subst (λ (n : ℕ). k < n) (sym front-long) (omega arith))
+      ∙ List·getD-append (take 16 b) (leBytes 8 m) 0 k (subst (λ (n : ℕ). k < n) (sym (first-long 16 (omega arith))) l)
+      ∙ getD-take 16 b k 0 l
+
+  whole-long : length (front ++ drop 24 b) ≡ imageLength
+  whole-long = length-append front (drop 24 b) ∙ ap₂ _+_ front-long (length-drop 24 b ∙ ap (λ (n : ℕ). n - 24) e)
+
+  oracles-same : take 4 (drop 8 (front ++ drop 24 b)) ≡ take 4 (drop 8 b)
+  oracles-same =
+      part-table 0 (front ++ drop 24 b) 8 4 (rw whole-long (omega arith))
+      ∙ table-same 0 4 (λ k. byte (front ++ drop 24 b) (8 + k)) (λ k. byte b (8 + k)) (λ k l. head-same (8 + k) (omega arith))
+      ∙ sym (part-table 0 b 8 4 (rw e (omega arith)))
 
   value-same : (v : ℕ) → u32 (front ++ drop 24 b) (56 + 4 * v) ≡ u32 b (56 + 4 * v)
   value-same v =
@@ -109,5 +119,5 @@ module _ (b : Image) (m : ℕ) (e : length b ≡ imageLength) where
               lastPorts = take 16 (behind 16 i);
               values = table 64 (λ v. signed (value-same v i));
             };
-        oracle = oracle-same i;
+        oracles = oracles-same i;
       }

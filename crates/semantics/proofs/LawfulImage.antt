@@ -1,4 +1,4 @@
--- What each of 11 to 14 leaves of an image that it does not refuse, by name; and all of it, where none of 1 to 14 applies.
+-- What each of 11 to 14 leaves of an image that it does not refuse, by name; and all of it, where neither plan nor image is refused.
 use mathlib.Core.Path.{_≡_, refl, sym, _∙_}
 use Prim.Native.Nat.{ℕ, _<_}
 use mathlib.Core.Bool.{true, false}
@@ -8,7 +8,7 @@ use Rattle.semantics.specs.Bytes.{implies, bit}
 use Rattle.semantics.specs.Plan.{Plan, maxComponents, maxVariables, maxInteractions, interactions}
 use Rattle.semantics.specs.Refusal.{refusal}
 use Rattle.semantics.specs.Rules.{planRules, planRefusal}
-use Rattle.semantics.specs.Move.{Configuration, eligible, after, oracleInRange, good}
+use Rattle.semantics.specs.Move.{Configuration, eligible, after, oraclesInRange, good}
 use Rattle.semantics.specs.Image.{Image, imageLength, marksOf, configurationOf, headMatches, locationOk, lastPortOk, valueOk, configurationOk, markOk, marksOk, lengthRule, imageRules}
 use Rattle.semantics.proofs.Basics.{not-yes, implies-at, each, ltb-true, eqb-true, every-at}
 use Rattle.semantics.proofs.Refusing.{numbered, none-refused, refusal-after, refusal-before}
@@ -18,7 +18,7 @@ use Rattle.semantics.proofs.Ranking.{uncommitted-bad}
 
 -- 13: what it leaves of a configuration
 pub record Configured (p : Plan) (c : Configuration) : Type 0 where
-  pub in-range : oracleInRange p (c .oracle) ≡ true
+  pub in-range : oraclesInRange p (c .oracles) ≡ true
   pub is-good : good p c ≡ true
   pub location : (k : ℕ) → k < maxComponents → locationOk p (c .state) k ≡ true
   pub last-port : (k : ℕ) → k < maxComponents → lastPortOk p (c .state) k ≡ true
@@ -53,7 +53,7 @@ unfolding marksOk
 marks-kept p c m e i l b =
     mark-kept p c i (implies-at (bit m i) (markOk p c i) (every-at maxInteractions (λ j. implies (bit m j) (markOk p c j)) e i l) b)
 
--- none of 1 to 14 applies
+-- neither plan nor image is refused
 pub record LawfulImage (p : Plan) (b : Image) : Type 0 where
   pub plan-accepted : planRefusal p ≡ 0
   pub long : length b ≡ imageLength

@@ -20,8 +20,13 @@ pub mod LawfulImage
 pub mod MarksExactly
 pub mod Masks
 pub mod Meaning
+pub mod OldImages
+pub mod OldMeaning
+pub mod OldPlans
 pub mod OneCall
+pub mod OneMoreOracle
 pub mod OneMove
+pub mod Oracles
 pub mod PennedExactly
 pub mod Performed
 pub mod Quantifiers
@@ -32,6 +37,7 @@ pub mod RefusedUnchanged
 pub mod Refusing
 pub mod RuleLists
 pub mod RunsByTries
+pub mod SameTables
 pub mod Sound
 pub mod Spans
 pub mod Tables

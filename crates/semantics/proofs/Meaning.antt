@@ -4,11 +4,11 @@ use Rattle.semantics.specs.Bytes.{u16, u32, u64, leBytes, allOf, implies
 use Rattle.semantics.specs.Calls.{packed, unlessRefused, check, startRules, start, clerkRules, offeredMask, tried, settled, callRules, performed, called, offeredBits, calledAll, session}
 use Rattle.semantics.specs.Cases.{agree, allAgree, startImage, taredImage, cases}
 use Rattle.semantics.specs.Code.{instruction, decode, operate, operatorPops, operatorPushes, perform, ran, guardHolds, acted, ownedBy, sharedIn, declared, allowed, pops, pushes, depthAfter, deeper, depth, finalDepth, endsAt, spanOk}
-use Rattle.semantics.specs.Image.{head, valueBytes, image, withMarks, marksOf, configurationOf, headMatches, locationOk, lastPortOk, valueOk, configurationOk, markOk, marksOk, lengthRule, imageRules}
-use Rattle.semantics.specs.Move.{ready, chosen, chosenIn, enabled, outranked, eligible, actedBelow, fired, letter, judged, after, oracleInRange, oracleGood, good, mayCommit, safeMove, initialState, initial}
-use Rattle.semantics.specs.Plan.{sectionSize, sectionStart, takesPart, below, verdict, next}
+use Rattle.semantics.specs.Image.{head, valueBytes, image, withMarks, marksOf, configurationOf, oracleByte, headMatches, locationOk, lastPortOk, valueOk, configurationOk, markOk, marksOk, lengthRule, imageRules}
+use Rattle.semantics.specs.Move.{ready, chosen, chosenIn, enabled, outranked, eligible, actedBelow, fired, letter, nextStates, judged, after, stateInRange, oraclesInRange, lowestVerdict, oraclesGood, good, mayCommit, safeMove, initialState, initial}
+use Rattle.semantics.specs.Plan.{oracleStates, statesBefore, sectionSize, sectionStart, takesPart, below, verdict, next}
 use Rattle.semantics.specs.Refusal.{unless, refusal}
-use Rattle.semantics.specs.Rules.{within, headOk, countsOk, layoutOk, componentOk, variableOk, transitionOk, portOk, interactionOk, rankOk, verdictOk, followerOk, oracleOk, transitionCode, interactionCode, propositionCode, codeOk, planRules, planRefusal}
+use Rattle.semantics.specs.Rules.{within, headOk, stateCountOk, oracleCountsOk, countsOk, layoutOk, componentOk, variableOk, transitionOk, portOk, interactionOk, rankOk, verdictOk, followerOk, oracleOk, tableOk, transitionCode, interactionCode, propositionCode, codeOk, planRules, planRefusal}
 use Rattle.semantics.specs.Run.{isRun, committedMoves, noCommit, crosses, someCrosses}
 use Rattle.semantics.specs.Sample.{joined, places, sections, counts, offsets, written, scale, sample, ranked, weighedAtStart, still, underflow}
 use Rattle.semantics.specs.Signed.{signed, residue, wrap, add, subtract, extend, equalZ, atLeast, holds, truth}
@@ -34,15 +34,15 @@ unfolding instruction decode operate operatorPops operatorPushes perform ran gua
 inCode = tt
 
 unfoldable pub inImage : Unit {0}
-unfolding head valueBytes image withMarks marksOf configurationOf headMatches locationOk lastPortOk valueOk configurationOk markOk marksOk lengthRule imageRules
+unfolding head valueBytes image withMarks marksOf configurationOf oracleByte headMatches locationOk lastPortOk valueOk configurationOk markOk marksOk lengthRule imageRules
 inImage = tt
 
 unfoldable pub inMove : Unit {0}
-unfolding ready chosen chosenIn enabled outranked eligible actedBelow fired letter judged after oracleInRange oracleGood good mayCommit safeMove initialState initial
+unfolding ready chosen chosenIn enabled outranked eligible actedBelow fired letter nextStates judged after stateInRange oraclesInRange lowestVerdict oraclesGood good mayCommit safeMove initialState initial
 inMove = tt
 
 unfoldable pub inPlan : Unit {0}
-unfolding sectionSize sectionStart takesPart below verdict next
+unfolding oracleStates statesBefore sectionSize sectionStart takesPart below verdict next
 inPlan = tt
 
 unfoldable pub inRefusal : Unit {0}
@@ -50,7 +50,7 @@ unfolding unless refusal
 inRefusal = tt
 
 unfoldable pub inRules : Unit {0}
-unfolding within headOk countsOk layoutOk componentOk variableOk transitionOk portOk interactionOk rankOk verdictOk followerOk oracleOk transitionCode interactionCode propositionCode codeOk planRules planRefusal
+unfolding within headOk stateCountOk oracleCountsOk countsOk layoutOk componentOk variableOk transitionOk portOk interactionOk rankOk verdictOk followerOk oracleOk tableOk transitionCode interactionCode propositionCode codeOk planRules planRefusal
 inRules = tt
 
 unfoldable pub inRun : Unit {0}

@@ -7,12 +7,12 @@ use native.Mathlib.Omega.{arith}
 use mathlib.Core.Bool.{true, false, not, _||_}
 use mathlib.Core.List.{List, [], _∷_, _++_, append-assoc}
 use lib.ListN.{length, take, drop, length-append}
-use lib.Seq.{take-at, drop-at, length-take-le}
+use lib.Seq.{take-at, drop-at, length-take-le, getD-take}
 use lib.Dec.{eqb}
-use Rattle.semantics.specs.Bytes.{u64, leBytes, allOf, bit, mask, withBit}
-use Rattle.semantics.specs.Plan.{Plan, interactions}
+use Rattle.semantics.specs.Bytes.{byte, u64, leBytes, allOf, bit, mask, withBit}
+use Rattle.semantics.specs.Plan.{Plan, maxOracles, interactions}
 use Rattle.semantics.specs.Move.{enabled, outranked, eligible, after, good, safeMove}
-use Rattle.semantics.specs.Image.{Image, imageLength, image, withMarks, marksOf, configurationOf}
+use Rattle.semantics.specs.Image.{Image, imageLength, oraclesPlace, image, withMarks, marksOf, configurationOf}
 use Rattle.semantics.specs.Calls.{committed, cancelled, outcome, offeredMask, tried, settled, offered, try, settle, performed}
 use Rattle.semantics.specs.Book.{Book, lane, bookTried}
 use Rattle.semantics.proofs.Basics.{not-yes, each, all-of, lt-ltb}
@@ -26,6 +26,9 @@ use Rattle.semantics.proofs.Images.{u32-past}
 pub record SameButMarks (a b : Image) : Type 0 where
   pub before : take 16 a ≡ take 16 b
   pub behind : drop 24 a ≡ drop 24 b
+
+same-before : {a b : Image} → SameButMarks a b → (k : ℕ) → k < 16 → byte a k ≡ byte b k
+same-before {a} {b} s k l = sym (getD-take 16 a k 0 l) ∙ ap (λ (x : Image). byte x k) (s .before) ∙ getD-take 16 b k 0 l
 
 u64-past : (xs ys : List ℕ) (n k : ℕ) → length xs ≡ n → u64 (xs ++ ys) (n + k) ≡ u64 ys k
 unfolding u64
@@ -75,6 +78,12 @@ module _ (p : Plan) (b : Image) where
       → performed p b (try i) ≡ outcome (committed i) (image p (after p (configurationOf b) i) 0)
   unfolding performed tried
   good-committed i g = rw g refl
+
+  -- "The cancel and restore rule now covers all four" (02, job 1): a cancelled move leaves each oracle's byte as it was.
+  pub oracles-restored : (i n : ℕ) → length b ≡ imageLength → good p (after p (configurationOf b) i) ≡ false → n < maxOracles
+      → byte (performed p b (try i) .image) (oraclesPlace + n) ≡ byte b (oraclesPlace + n)
+  unfolding performed tried
+  oracles-restored i n e g l = rw g (same-before (others-same b _ e) (oraclesPlace + n) (omega arith))
 
   -- "A bad one is cancelled: its mark is set and no other byte differs." Nor does another mark.
   pub bad-cancelled : (i : ℕ) → length b ≡ imageLength → good p (after p (configurationOf b) i) ≡ false

@@ -6,9 +6,9 @@ use mathlib.Core.List.{List, [], _∷_, _++_}
 use lib.ListN.{getD}
 use lib.Dec.{ltb}
 use Rattle.semantics.specs.Bytes.{implies}
-use Rattle.semantics.specs.Plan.{Plan, Span, components, transitions, firstOracle, destination, portIn, takesPart, guardOf, componentOf, source, portOf, actionOf, transferOf, next}
+use Rattle.semantics.specs.Plan.{Plan, Span, components, transitions, startStates, destination, portIn, takesPart, guardOf, componentOf, source, portOf, actionOf, transferOf}
 use Rattle.semantics.specs.Code.{State, guardHolds, acted}
-use Rattle.semantics.specs.Move.{Configuration, ready, chosen, chosenIn, enabled, actedBelow, fired, letter, judged, after, initial}
+use Rattle.semantics.specs.Move.{Configuration, ready, chosen, chosenIn, enabled, actedBelow, fired, letter, nextStates, judged, after, initial}
 use Rattle.semantics.proofs.Basics.{bool-cases, implies-at, each, ltb-true, eqb-true, every-at, lowest-is, getD-table}
 
 -- "All guards read the old state": where an interaction is enabled, each component taking part uses a transition of its own that leaves its old
@@ -90,12 +90,12 @@ module _ (p : Plan) (c : Configuration) (i : ℕ) where
     getD-table 16 (λ n. cond (takesPart p i n) (portIn p i n) (getD (c .state .lastPorts) n 0)) 0 k l ∙ rw t refl,
   )
 
-  -- "The event's letter is .. of the new state": the oracle reads the whole state after the move, last ports included
-  pub new-state-judged : after p c i .oracle ≡ next p (c .oracle) (letter p (after p c i .state))
+  -- "The event's letter is .. of the new state": every oracle reads the whole state after the move, last ports included
+  pub new-state-judged : after p c i .oracles ≡ nextStates p (c .oracles) (letter p (after p c i .state))
   unfolding after judged
   new-state-judged = refl
 
 -- "The oracle also reads the starting state's event"
-pub start-judged : (p : Plan) → initial p .oracle ≡ next p (firstOracle p) (letter p (initial p .state))
+pub start-judged : (p : Plan) → initial p .oracles ≡ nextStates p (startStates p) (letter p (initial p .state))
 unfolding initial judged
 start-judged p = refl

@@ -8,9 +8,9 @@ use mathlib.Core.Bool.{Bool, true, false, not, false≢true}
 use mathlib.Core.List.{List, [], _∷_, _++_}
 use lib.ListN.{length}
 use Rattle.semantics.specs.Bytes.{every, bit}
-use Rattle.semantics.specs.Plan.{Plan, components, variables, transitions, interactions, oracleStates}
+use Rattle.semantics.specs.Plan.{Plan, components, variables, transitions, interactions, addedOracles}
 use Rattle.semantics.specs.Refusal.{Rule, rule, refusal}
-use Rattle.semantics.specs.Rules.{headOk, countsOk, layoutOk, componentOk, variableOk, transitionOk, interactionOk, rankOk, oracleOk, codeOk, planRules}
+use Rattle.semantics.specs.Rules.{headOk, countsOk, layoutOk, componentOk, variableOk, transitionOk, interactionOk, rankOk, tableOk, codeOk, planRules}
 use Rattle.semantics.specs.Move.{enabled, outranked, good, initial}
 use Rattle.semantics.specs.Image.{Image, imageLength, image, marksOf, configurationOf, headMatches, configurationOk, marksOk, lengthRule, imageRules}
 use Rattle.semantics.specs.Calls.{Answer, accepted, refused, Outcome, outcome, unlessRefused, check, startRules, start, clerkRules, Call, offered, try, settle, callRules, performed, called}
@@ -40,7 +40,7 @@ rulesOf p (calling b k) = callRules p b k
 
 -- The numbers that a call can give, in the order of its list: the plan's, and after them those of a start, of the image, of the clerk.
 abbrev pub planNumbers : List ℕ
-planNumbers = 1 ∷ 2 ∷ 3 ∷ 4 ∷ 5 ∷ 6 ∷ 7 ∷ 8 ∷ 9 ∷ 10 ∷ []
+planNumbers = 1 ∷ 2 ∷ 3 ∷ 4 ∷ 5 ∷ 6 ∷ 7 ∷ 8 ∷ 9 ∷ 20 ∷ 10 ∷ []
 
 -- "Start skips 12–14, since it overwrites the image."
 abbrev pub startNumbers : List ℕ
@@ -165,9 +165,9 @@ pub try-gives : (p : Plan) (b : Image) (i n : ℕ) → called p b (try i) .answe
     → among n (planNumbers ++ imageNumbers ++ clerkNumbers) ≡ true
 try-gives p b i n = gives-own p (calling b (try i)) n
 
--- ---- the planner, 1 to 10: check, start, offered, try and settle alike. From 4 on, `before n` names the rules that stand before rule n at once.
+-- ---- the planner, 1 to 10 and 20: check, start, offered, try and settle alike. From 4 on, `before n` names the rules that stand before rule n at once.
 
--- 1: "fewer than 48 bytes, wrong letters, or bytes 42–47 not zero".
+-- 1: "fewer than 48 bytes, wrong letters, or bytes" 46 and 47 "not zero".
 pub refusal-1 : (p : Plan) (q : AnyCall) → answerTo p q ≡ refused 1 ↔ headOk p ≡ false
 unfolding before keeps planRules
 refusal-1 p q = Iff·trans (plan-refuses p q 1 refl) (λ (_, b). b, λ b. (tt, b))
@@ -207,9 +207,15 @@ refusal-8 p q = plan-refuses p q 8 refl
 
 -- 9: "a verdict other than 0, 2, 3, a next state at or above S, a bad state with a follower that is not bad, a 3 state
 -- with a follower that is not 3".
-pub refusal-9 : (p : Plan) (q : AnyCall) → answerTo p q ≡ refused 9 ↔ Kept (before 9 (planRules p)) × (every (oracleStates p) (oracleOk p) ≡ false)
+pub refusal-9 : (p : Plan) (q : AnyCall) → answerTo p q ≡ refused 9 ↔ Kept (before 9 (planRules p)) × (tableOk p 0 ≡ false)
 unfolding keeps planRules
 refusal-9 p q = plan-refuses p q 9 refl
+
+-- 20 (02, job 1): "when an added table breaks the rule of 9; it is tested after 9 and before 10".
+pub refusal-20 : (p : Plan) (q : AnyCall)
+    → answerTo p q ≡ refused 20 ↔ Kept (before 20 (planRules p)) × (every (addedOracles p) (λ k. tableOk p (suc k)) ≡ false)
+unfolding keeps planRules
+refusal-20 p q = plan-refuses p q 20 refl
 
 -- 10: "a span whose start plus length exceeds W, or any rule under "Code words" broken".
 pub refusal-10 : (p : Plan) (q : AnyCall) → answerTo p q ≡ refused 10 ↔ Kept (before 10 (planRules p)) × (codeOk p ≡ false)
@@ -231,13 +237,13 @@ refusal-11 p b =
 
 -- ---- the keeper of the image, 12 to 14: offered, try and settle
 
--- 12: "bytes 0–7 or 9–15 do not match form 1 and the plan".
+-- 12: "bytes 0–7 or" 12–15 "do not match form 1 and the plan".
 pub refusal-12 : (p : Plan) (b : Image) (k : Call)
     → called p b k .answer ≡ refused 12 ↔ Kept (before 12 (planRules p ++ imageRules p b)) × (headMatches p b ≡ false)
 unfolding keeps planRules imageRules lengthRule
 refusal-12 p b k = image-refuses p b k 12 refl
 
--- 13: "oracle state at or above S or bad, a location or last port out of range, an unused entry filled".
+-- 13: "oracle state at or above S or bad, a location or last port out of range, an unused entry filled", of every oracle.
 pub refusal-13 : (p : Plan) (b : Image) (k : Call)
     → called p b k .answer ≡ refused 13 ↔ Kept (before 13 (planRules p ++ imageRules p b)) × (configurationOk p (configurationOf b) ≡ false)
 unfolding keeps planRules imageRules lengthRule

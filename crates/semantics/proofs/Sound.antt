@@ -4,17 +4,17 @@ use Prim.Native.Nat.{ℕ, zero, suc, _+_, _≤_, _<_}
 use native.Mathlib.Nat.{le-refl, le-trans, le-of-lt}
 use native.Mathlib.Omega.{arith}
 use mathlib.Core.Bool.{true, cond}
-use mathlib.Core.List.{[], _∷_}
+use mathlib.Core.List.{List, [], _∷_}
 use lib.ListN.{length, getD, List·getD-eq-default}
 use lib.Dec.{ltb, eqb}
 use lib.IntN.{ℤ, pos}
 use Rattle.semantics.specs.Bytes.{u32, allOf, table}
 use Rattle.semantics.specs.Signed.{wrap, equalZ}
-use Rattle.semantics.specs.Plan.{Plan, maxComponents, maxVariables, noPort, components, variables, interactions, propositions, firstOracle, letters, locations, startLocation, startValue, ports}
-use Rattle.semantics.specs.Plan.{componentOf, destination, portIn, takesPart, actionOf, transferOf, variableAt, propositionOf, next, oracleStates}
+use Rattle.semantics.specs.Plan.{Plan, maxComponents, maxVariables, noPort, components, variables, interactions, propositions, maxOracles, startStates, letters, locations, startLocation, startValue, ports}
+use Rattle.semantics.specs.Plan.{componentOf, destination, portIn, takesPart, actionOf, transferOf, variableAt, propositionOf}
 use Rattle.semantics.specs.Code.{State, guardHolds, ownedBy, sharedIn}
-use Rattle.semantics.specs.Rules.{componentOk, transitionOk, portOk, interactionOk, followerOk, oracleOk}
-use Rattle.semantics.specs.Move.{Configuration, chosenIn, enabled, actedBelow, fired, letter, judged, after, oracleInRange, good, initialState, initial}
+use Rattle.semantics.specs.Rules.{componentOk, transitionOk, portOk, interactionOk}
+use Rattle.semantics.specs.Move.{Configuration, chosenIn, enabled, actedBelow, fired, letter, judged, after, oraclesInRange, good, initialState, initial}
 use Rattle.semantics.specs.Image.{locationOk, lastPortOk, valueOk, configurationOk}
 use Rattle.semantics.proofs.Basics.{bool-cases, absurd-bool, not-yes, or-cases, or-left, or-right, each, all-of, ltb-true, ltb-false, lt-ltb, le-ltb, every-at, every-all, length-table, getD-table}
 use Rattle.semantics.proofs.Masks.{mask-lt}
@@ -22,17 +22,19 @@ use Rattle.semantics.proofs.AcceptedPlan.{Accepted, counts-of, action-o
 use Rattle.semantics.proofs.Evaluator.{low-word, signed-word, Valued, acted-valued}
 use Rattle.semantics.proofs.Images.{Shaped}
 use Rattle.semantics.proofs.OneMove.{Uses, uses}
+use Rattle.semantics.proofs.Oracles.{length-next-states, next-states-in-range, start-in-range}
 
 pub record Sound (p : Plan) (c : Configuration) : Type 0 where
-  pub in-range : oracleInRange p (c .oracle) ≡ true
+  pub oracles-4 : length (c .oracles) ≡ maxOracles
+  pub in-range : oraclesInRange p (c .oracles) ≡ true
   pub locations-16 : length (c .state .locations) ≡ maxComponents
   pub ports-16 : length (c .state .lastPorts) ≡ maxComponents
   pub location : (k : ℕ) → k < maxComponents → locationOk p (c .state) k ≡ true
   pub port : (k : ℕ) → k < maxComponents → lastPortOk p (c .state) k ≡ true
   pub valued : Valued p (c .state .values)
 
-pub shaped : (p : Plan) (c : Configuration) → Sound p c → Shaped (c .state)
-shaped p c h = record { locations-16 = h .locations-16; ports-16 = h .ports-16; values-64 = h .valued .long; words = h .valued .words }
+pub shaped : (p : Plan) (c : Configuration) → Sound p c → Shaped c
+shaped p c h = record { oracles-4 = h .oracles-4; locations-16 = h .locations-16; ports-16 = h .ports-16; values-64 = h .valued .long; words = h .valued .words }
 
 zero-value : (z : ℤ) → z ≡ pos 0 → equalZ z (pos 0) ≡ true
 unfolding equalZ
@@ -51,26 +53,15 @@ unfolding configurationOk
 configuration-ok p c h g =
     all-of _ (h .in-range, (g, (every-all maxComponents _ (h .location), (every-all maxComponents _ (h .port), (every-all maxVariables _ (unused-zero p c h), tt)))))
 
--- ---- the oracle
+-- ---- the oracles
 
 pub letter-lt : (p : Plan) (s : State) → letter p s < letters p
 unfolding letter
 letter-lt p s = mask-lt (propositions p) (λ k. guardHolds p s (propositionOf p k))
 
-pub range-lt : (p : Plan) (q : ℕ) → oracleInRange p q ≡ true → q < oracleStates p
-unfolding oracleInRange
-range-lt p q e = ltb-true q (oracleStates p) e
-
-pub next-in-range : (p : Plan) → Accepted p → (q a : ℕ) → oracleInRange p q ≡ true → a < letters p → oracleInRange p (next p q a) ≡ true
-unfolding oracleInRange oracleOk followerOk
-next-in-range p h q a l m =
-    let (_, (followers, _)) = each _ (h .oracle q (ltb-true _ _ l)) in
-    let (low, _) = each _ (every-at (letters p) (λ b. followerOk p q (next p q b)) followers a m) in
-    low
-
-judged-in-range : (p : Plan) → Accepted p → (q : ℕ) (s : State) → oracleInRange p q ≡ true → oracleInRange p (judged p q s .oracle) ≡ true
+judged-in-range : (p : Plan) → Accepted p → (qs : List ℕ) (s : State) → oraclesInRange p qs ≡ true → oraclesInRange p (judged p qs s .oracles) ≡ true
 unfolding judged
-judged-in-range p h q s l = next-in-range p h q (letter p s) l (letter-lt p s)
+judged-in-range p h qs s l = next-states-in-range p h qs (letter p s) l (letter-lt p s)
 
 -- ---- the starting configuration
 
@@ -111,7 +102,8 @@ pub sound-initial : (p : Plan) → Accepted p → Sound p (initial p)
 unfolding initial judged initialState
 sound-initial p h =
     record {
-      in-range = judged-in-range p h (firstOracle p) (initialState p) (counts-of p (h .counts) .first);
+      oracles-4 = length-next-states p (startStates p) (letter p (initialState p));
+      in-range = judged-in-range p h (startStates p) (initialState p) (start-in-range p h);
       locations-16 = length-table maxComponents (λ c. cond (ltb c (components p)) (startLocation p c) 0);
       ports-16 = length-table {A = ℕ} maxComponents (λ c. noPort);
       location = initial-location p h;
@@ -189,7 +181,8 @@ module _ (p : Plan) (h : Accepted p) (c : Configuration) (g : Sound p c) (i : �
   unfolding after judged fired
   sound-after =
       record {
-        in-range = judged-in-range p h (c .oracle) (fired p (c .state) i) (g .in-range);
+        oracles-4 = length-next-states p (c .oracles) (letter p (fired p (c .state) i));
+        in-range = judged-in-range p h (c .oracles) (fired p (c .state) i) (g .in-range);
         locations-16 = length-table maxComponents (λ k. cond (takesPart p i k) (destination p (chosenIn p (c .state) i k)) (getD (c .state .locations) k 0));
         ports-16 = length-table maxComponents (λ k. cond (takesPart p i k) (portIn p i k) (getD (c .state .lastPorts) k 0));
         location = fired-location;

@@ -57,7 +57,7 @@ unfoldable pub unlessRefused : ℕ → Image → Outcome → Outcome
 unlessRefused zero b o = o
 unlessRefused (suc n) b o = outcome (refused (suc n)) b
 
--- Check a plan: 1 to 10. It lends no image.
+-- Check a plan: 1 to 10 and 20. It lends no image.
 unfoldable pub check : Plan → Answer
 check p = unlessRefused (refusal (planRules p)) [] (outcome accepted []) .answer
 
@@ -99,7 +99,7 @@ pub data Call : Type 0 where
   try : ℕ → Call
   settle : Call
 
--- Each call's refusals, in order: offered and settle 1 to 14, try 1 to 14 and then 16 to 19.
+-- Each call's refusals, in order: of the plan and of the image, 11 to 14; for a try then 16 to 19.
 unfoldable pub callRules : Plan → Image → Call → List Rule
 callRules p b offered = planRules p ++ imageRules p b
 callRules p b (try i) = planRules p ++ imageRules p b ++ clerkRules p b i

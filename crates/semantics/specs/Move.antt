@@ -1,19 +1,20 @@
--- One move, 01 "One move": enabled, outranked, the state after a move, its event and the oracle's verdict.
-use Prim.Native.Nat.{ℕ, zero, suc, _+_}
+-- One move, 01 "One move": enabled, outranked, the state after a move, its event and the oracles' verdict.
+use Prim.Native.Nat.{ℕ, zero, suc, min, _+_}
 use mathlib.Core.Bool.{Bool, true, false, not, cond, _&&_}
 use mathlib.Core.List.{List, [], _∷_}
 use lib.ListN.{getD}
 use lib.Dec.{ltb, eqb}
 use lib.IntN.{pos}
 use Rattle.semantics.specs.Bytes.{allOf, implies, every, some-below, lowest, table, mask}
-use Rattle.semantics.specs.Plan.{Plan, maxComponents, maxVariables, noPort, components, variables, transitions, interactions, propositions, oracleStates, firstOracle, startLocation, startValue}
+use Rattle.semantics.specs.Plan.{Plan, maxComponents, maxVariables, maxOracles, noPort, components, variables, transitions, interactions, propositions, addedOracles, oracles, oracleStates, startStates}
+use Rattle.semantics.specs.Plan.{startLocation, startValue}
 use Rattle.semantics.specs.Plan.{componentOf, source, portOf, destination, guardOf, actionOf, portIn, takesPart, interactionGuard, transferOf, below, propositionOf, verdict, next}
 use Rattle.semantics.specs.Code.{State, guardHolds, acted}
 
--- A configuration (01's lane): the components' state and the oracle's.
+-- A configuration (01's lane): the components' state, and the oracles' (four places, 0 where unused).
 pub record Configuration : Type 0 where
   pub state : State
-  pub oracle : ℕ
+  pub oracles : List ℕ
 
 -- Transition t of component c leaves its location through port q, and its guard holds.
 unfoldable pub ready : Plan → State → ℕ → ℕ → ℕ → Bool
@@ -61,24 +62,38 @@ fired p s i =
 unfoldable pub letter : Plan → State → ℕ
 letter p s = mask (propositions p) (λ k. guardHolds p s (propositionOf p k))
 
--- The configuration when the oracle in state q has read the event of the state s.
-unfoldable pub judged : Plan → ℕ → State → Configuration
-judged p q s = record { state = s; oracle = next p q (letter p s) }
+-- 02, job 1: "more oracles over the same propositions". The states when each of them has read the letter a.
+unfoldable pub nextStates : Plan → List ℕ → ℕ → List ℕ
+nextStates p qs a = table maxOracles (λ n. cond (ltb n (oracles p)) (next p n (getD qs n 0) a) 0)
+
+-- The configuration when the oracles in the states qs have read the event of the state s.
+unfoldable pub judged : Plan → List ℕ → State → Configuration
+judged p qs s = record { state = s; oracles = nextStates p qs (letter p s) }
 
 -- The configuration after interaction i: the new state, its event read.
 unfoldable pub after : Plan → Configuration → ℕ → Configuration
-after p c i = judged p (c .oracle) (fired p (c .state) i)
+after p c i = judged p (c .oracles) (fired p (c .state) i)
 
--- An oracle state that the plan has.
-unfoldable pub oracleInRange : Plan → ℕ → Bool
-oracleInRange p q = ltb q (oracleStates p)
+-- 13 has "oracle state at or above S" refused: a state that oracle n has. Where the plan has no oracle n, 02, job 1: "zero where unused".
+unfoldable pub stateInRange : Plan → ℕ → ℕ → Bool
+stateInRange p n q = cond (ltb n (oracles p)) (ltb q (oracleStates p n)) (eqb q 0)
+
+-- The same of all four.
+unfoldable pub oraclesInRange : Plan → List ℕ → Bool
+oraclesInRange p qs = every maxOracles (λ n. stateInRange p n (getD qs n 0))
+
+-- 02, job 1: "The verdict of a move, and of the starting state, is the lowest of all the oracles' verdicts": of the first oracle and n more.
+unfoldable pub lowestVerdict : Plan → List ℕ → ℕ → ℕ
+lowestVerdict p qs zero = verdict p 0 (getD qs 0 0)
+lowestVerdict p qs (suc n) = min (lowestVerdict p qs n) (verdict p (suc n) (getD qs (suc n) 0))
 
 -- "A state is good when the oracle's new verdict is not 0."
-unfoldable pub oracleGood : Plan → ℕ → Bool
-oracleGood p q = not (eqb (verdict p q) 0)
+unfoldable pub oraclesGood : Plan → List ℕ → Bool
+oraclesGood p qs = not (eqb (lowestVerdict p qs (addedOracles p)) 0)
 
+-- The same of a configuration.
 unfoldable pub good : Plan → Configuration → Bool
-good p c = oracleGood p (c .oracle)
+good p c = oraclesGood p (c .oracles)
 
 -- The move may be committed: it is enabled, not outranked and ends good.
 unfoldable pub mayCommit : Plan → Configuration → ℕ → Bool
@@ -99,4 +114,4 @@ initialState p =
 
 -- "The oracle also reads the starting state's event (000), so a run begins judged."
 unfoldable pub initial : Plan → Configuration
-initial p = judged p (firstOracle p) (initialState p)
+initial p = judged p (startStates p) (initialState p)

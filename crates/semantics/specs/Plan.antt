@@ -21,6 +21,10 @@ maxVariables = 64
 abbrev pub maxInteractions : ℕ
 maxInteractions = 64
 
+-- 02, job 1: "A plan may carry up to three more oracles". The first one has number 0.
+abbrev pub maxOracles : ℕ
+maxOracles = 4
+
 -- A port byte of a component that takes no part; a last port where there is none yet.
 abbrev pub noPort : ℕ
 noPort = 255
@@ -29,9 +33,9 @@ noPort = 255
 abbrev pub numberByte : Plan → ℕ → ℕ
 numberByte p k = byte p (4 + k)
 
--- Bytes 42 to 47, which are zero: byte k of them.
+-- Bytes 46 and 47, which are zero: byte k of them.
 abbrev pub reservedByte : Plan → ℕ → ℕ
-reservedByte p k = byte p (42 + k)
+reservedByte p k = byte p (46 + k)
 
 -- The header: "Then 16-bit fields: 8 total length; 10 components C; ..".
 abbrev pub totalLength : Plan → ℕ
@@ -52,14 +56,33 @@ interactions p = u16 p 16
 abbrev pub propositions : Plan → ℕ
 propositions p = u16 p 18
 
-abbrev pub oracleStates : Plan → ℕ
-oracleStates p = u16 p 20
-
 abbrev pub firstOracle : Plan → ℕ
 firstOracle p = u16 p 22
 
 abbrev pub codeWords : Plan → ℕ
 codeWords p = u16 p 24
+
+-- 02, job 1: "Byte 42 gives how many (0–3)": the oracles beside the first one.
+abbrev pub addedOracles : Plan → ℕ
+addedOracles p = byte p 42
+
+-- All oracles of the plan.
+abbrev pub oracles : Plan → ℕ
+oracles p = suc (addedOracles p)
+
+-- "20 oracle states S", of the first oracle; "and bytes 43–45 their state counts", of the added ones.
+unfoldable pub oracleStates : Plan → ℕ → ℕ
+oracleStates p zero = u16 p 20
+oracleStates p (suc k) = byte p (43 + k)
+
+-- The state in which each oracle begins: "22 first oracle state", and of the added ones "Each begins at its state 0".
+abbrev pub startStates : Plan → List ℕ
+startStates p = firstOracle p ∷ 0 ∷ 0 ∷ 0 ∷ []
+
+-- "Their tables follow the first oracle's section": how many oracle states stand before those of oracle n.
+unfoldable pub statesBefore : Plan → ℕ → ℕ
+statesBefore p zero = 0
+statesBefore p (suc n) = statesBefore p n + oracleStates p n
 
 -- How many letters there are: a letter is a set of propositions.
 abbrev pub letters : Plan → ℕ
@@ -73,7 +96,7 @@ section p n = u16 p (26 + 2 * n)
 unfoldable pub sectionSize : Plan → ℕ → ℕ
 sectionSize p n =
     getD ((4 * components p) ∷ (8 * variables p) ∷ (12 * transitions p) ∷ (24 * interactions p) ∷ (8 * interactions p)
-    ∷ (4 * propositions p) ∷ ((1 + letters p) * oracleStates p) ∷ (2 * codeWords p) ∷ []) n 0
+    ∷ (4 * propositions p) ∷ ((1 + letters p) * statesBefore p maxOracles) ∷ (2 * codeWords p) ∷ []) n 0
 
 -- "The first section begins at 48, each next one where the last ended."
 unfoldable pub sectionStart : Plan → ℕ → ℕ
@@ -167,15 +190,18 @@ propositionAt p k = section p 5 + 4 * k
 abbrev pub propositionOf : Plan → ℕ → Span
 propositionOf p k = spanAt p (propositionAt p k)
 
--- "Oracle state, 1 + 2^K: verdict, then the next state for each letter."
-abbrev pub oracleAt : Plan → ℕ → ℕ
-oracleAt p q = section p 6 + (1 + letters p) * q
+-- "Oracle state, 1 + 2^K: verdict, then the next state for each letter": row r of the section, and that of state q of oracle n.
+abbrev pub rowAt : Plan → ℕ → ℕ
+rowAt p r = section p 6 + (1 + letters p) * r
 
-unfoldable pub verdict : Plan → ℕ → ℕ
-verdict p q = byte p (oracleAt p q)
+abbrev pub oracleAt : Plan → ℕ → ℕ → ℕ
+oracleAt p n q = rowAt p (statesBefore p n + q)
 
-unfoldable pub next : Plan → ℕ → ℕ → ℕ
-next p q a = byte p (oracleAt p q + (1 + a))
+unfoldable pub verdict : Plan → ℕ → ℕ → ℕ
+verdict p n q = byte p (oracleAt p n q)
+
+unfoldable pub next : Plan → ℕ → ℕ → ℕ → ℕ
+next p n q a = byte p (oracleAt p n q + (1 + a))
 
 -- "Code: W words of 16 bits."
 abbrev pub word : Plan → ℕ → ℕ

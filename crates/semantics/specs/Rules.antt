@@ -1,12 +1,12 @@
--- The planner's refusals, 1 to 10: when a plan's bytes are a lawful plan.
+-- The planner's refusals, 1 to 10 and 20: when a plan's bytes are a lawful plan.
 use Prim.Native.Nat.{ℕ, suc, _+_}
-use mathlib.Core.Bool.{Bool, not, _&&_, _||_}
+use mathlib.Core.Bool.{Bool, not, cond, _&&_, _||_}
 use mathlib.Core.List.{List, [], _∷_, _++_}
 use lib.ListN.{length}
 use lib.Dec.{leb, ltb, eqb}
 use Rattle.semantics.specs.Bytes.{byte, allOf, implies, every, some-below}
-use Rattle.semantics.specs.Plan.{Plan, maxComponents, maxVariables, maxInteractions, noPort, reservedByte, totalLength, components, variables, transitions, interactions, propositions}
-use Rattle.semantics.specs.Plan.{oracleStates, firstOracle, codeWords, letters, section, sectionStart, componentAt, locations, startLocation, ports, variableAt, owner, componentOf, source}
+use Rattle.semantics.specs.Plan.{Plan, maxComponents, maxVariables, maxInteractions, maxOracles, noPort, reservedByte, totalLength, components, variables, transitions, interactions, propositions}
+use Rattle.semantics.specs.Plan.{firstOracle, addedOracles, oracles, oracleStates, codeWords, letters, section, sectionStart, componentAt, locations, startLocation, ports, variableAt, owner, componentOf, source}
 use Rattle.semantics.specs.Plan.{portOf, destination, guardOf, actionOf, portIn, takesPart, interactionGuard, transferOf, below, propositionOf, verdict, next}
 use Rattle.semantics.specs.Code.{asGuard, asUpdate, asProposition, ownedBy, sharedIn, declared, spanOk}
 use Rattle.semantics.specs.Refusal.{Rule, rule, refusal}
@@ -15,18 +15,26 @@ use Rattle.semantics.specs.Refusal.{Rule, rule, refusal}
 unfoldable pub within : ℕ → ℕ → ℕ → Bool
 within low high n = allOf (leb low n ∷ leb n high ∷ [])
 
--- 1: "fewer than 48 bytes, wrong letters, or bytes 42–47 not zero". The letters PLAN are the bytes 80 76 65 78.
+-- 1: "fewer than 48 bytes, wrong letters, or bytes 42–47 not zero", of which 02, job 1, leaves 46 and 47. The letters PLAN are the bytes 80 76 65 78.
 unfoldable pub headOk : Plan → Bool
 headOk p =
     allOf (leb 48 (length p) ∷ eqb (byte p 0) 80 ∷ eqb (byte p 1) 76 ∷ eqb (byte p 2) 65 ∷ eqb (byte p 3) 78
-    ∷ every 6 (λ k. eqb (reservedByte p k) 0) ∷ [])
+    ∷ every 2 (λ k. eqb (reservedByte p k) 0) ∷ [])
+
+-- 2: the states of oracle n, "1–32"; 02, job 1: of an added one "zero where unused".
+unfoldable pub stateCountOk : Plan → ℕ → Bool
+stateCountOk p n = cond (ltb n (oracles p)) (within 1 32 (oracleStates p n)) (eqb (oracleStates p n) 0)
+
+-- 2, 02, job 1: "how many (0–3)" and "their state counts"; "Anything else in these four is met by 2".
+unfoldable pub oracleCountsOk : Plan → Bool
+oracleCountsOk p = allOf (leb (addedOracles p) 3 ∷ every maxOracles (stateCountOk p) ∷ [])
 
 -- 2: "a count or the first oracle state outside its range".
 unfoldable pub countsOk : Plan → Bool
 countsOk p =
     allOf (within 1 maxComponents (components p) ∷ leb (variables p) maxVariables ∷ leb (transitions p) 256
-    ∷ within 1 maxInteractions (interactions p) ∷ leb (propositions p) 4 ∷ within 1 32 (oracleStates p)
-    ∷ ltb (firstOracle p) (oracleStates p) ∷ leb (codeWords p) 4096 ∷ [])
+    ∷ within 1 maxInteractions (interactions p) ∷ leb (propositions p) 4 ∷ oracleCountsOk p
+    ∷ ltb (firstOracle p) (oracleStates p 0) ∷ leb (codeWords p) 4096 ∷ [])
 
 -- 3: "an offset, the stated length or the slice's own length is not as the counts give".
 unfoldable pub layoutOk : Plan → Bool
@@ -67,13 +75,19 @@ rankOk p i =
 unfoldable pub verdictOk : ℕ → Bool
 verdictOk v = allOf (leb v 3 ∷ not (eqb v 1) ∷ [])
 
--- 9: "a next state at or above S, a bad state with a follower that is not bad, a 3 state with a follower that is not 3".
-unfoldable pub followerOk : Plan → ℕ → ℕ → Bool
-followerOk p q r =
-    allOf (ltb r (oracleStates p) ∷ implies (eqb (verdict p q) 0) (eqb (verdict p r) 0) ∷ implies (eqb (verdict p q) 3) (eqb (verdict p r) 3) ∷ [])
+-- 9: "a next state at or above S, a bad state with a follower that is not bad, a 3 state with a follower that is not 3", of oracle n.
+unfoldable pub followerOk : Plan → ℕ → ℕ → ℕ → Bool
+followerOk p n q r =
+    allOf (ltb r (oracleStates p n) ∷ implies (eqb (verdict p n q) 0) (eqb (verdict p n r) 0)
+    ∷ implies (eqb (verdict p n q) 3) (eqb (verdict p n r) 3) ∷ [])
 
-unfoldable pub oracleOk : Plan → ℕ → Bool
-oracleOk p q = allOf (verdictOk (verdict p q) ∷ every (letters p) (λ a. followerOk p q (next p q a)) ∷ [])
+-- 9: the rule of one state of oracle n.
+unfoldable pub oracleOk : Plan → ℕ → ℕ → Bool
+oracleOk p n q = allOf (verdictOk (verdict p n q) ∷ every (letters p) (λ a. followerOk p n q (next p n q a)) ∷ [])
+
+-- 9: the table of oracle n.
+unfoldable pub tableOk : Plan → ℕ → Bool
+tableOk p n = every (oracleStates p n) (oracleOk p n)
 
 -- 10: "a span whose start plus length exceeds W, or any rule under "Code words" broken".
 unfoldable pub transitionCode : Plan → ℕ → Bool
@@ -90,7 +104,8 @@ unfoldable pub codeOk : Plan → Bool
 codeOk p =
     allOf (every (transitions p) (transitionCode p) ∷ every (interactions p) (interactionCode p) ∷ every (propositions p) (propositionCode p) ∷ [])
 
--- 01, "The planner": 1 to 10, in order. First the header, then the tables, then the code.
+-- 01, "The planner": 1 to 10, in order. First the header, then the tables, then the code. 02, job 1: "20 when an added table breaks the rule of 9; it is
+-- tested after 9 and before 10."
 abbrev pub headerRules : Plan → List Rule
 headerRules p = rule 1 (headOk p) ∷ rule 2 (countsOk p) ∷ rule 3 (layoutOk p) ∷ []
 
@@ -98,7 +113,7 @@ abbrev pub tableRules : Plan → List Rule
 tableRules p =
     rule 4 (every (components p) (componentOk p)) ∷ rule 5 (every (variables p) (variableOk p)) ∷ rule 6 (every (transitions p) (transitionOk p))
     ∷ rule 7 (every (interactions p) (interactionOk p)) ∷ rule 8 (every (interactions p) (rankOk p))
-    ∷ rule 9 (every (oracleStates p) (oracleOk p)) ∷ []
+    ∷ rule 9 (tableOk p 0) ∷ rule 20 (every (addedOracles p) (λ k. tableOk p (suc k))) ∷ []
 
 abbrev pub codeRules : Plan → List Rule
 codeRules p = rule 10 (codeOk p) ∷ []
@@ -106,6 +121,6 @@ codeRules p = rule 10 (codeOk p) ∷ []
 unfoldable pub planRules : Plan → List Rule
 planRules p = headerRules p ++ tableRules p ++ codeRules p
 
--- The number of the first refusal of 1 to 10 that applies; 0 for an accepted plan.
+-- The number of the first refusal that applies; 0 for an accepted plan.
 unfoldable pub planRefusal : Plan → ℕ
 planRefusal p = refusal (planRules p)

@@ -5,7 +5,7 @@ ghost use mathlib.Core.Path.{_≡_};
 ghost use Rattle.semantics.specs.Calls.{packed, check, start, called, offeredBits};
 ghost use Rattle.semantics.specs.Calls.Call.{offered, try, settle};
 
-// Whether a plan is lawful: accepted, or refused with 1 to 10.
+// Whether a plan is lawful: accepted, or refused with 1 to 10 or 20.
 #[no_mangle]
 pub extern "C" fn yard_check(plan: &[u8]) -> u32
     ensures { λ r. ⌜ r ≡ packed (check (now (plan .entry))) ⌝ }
@@ -17,7 +17,7 @@ pub extern "C" fn yard_check(plan: &[u8]) -> u32
     5 * 65536 + refusal as u32
 }
 
-// Starts a lane: accepted, or refused with 1 to 11 or 15.
+// Starts a lane: accepted, or refused with 1 to 11, 15 or 20.
 #[no_mangle]
 pub extern "C" fn yard_start(plan: &[u8], image: &mut [u8]) -> u32
     ensures { λ r. ⌜ (r ≡ packed (start (now (plan .entry)) (now (image .entry)) .answer)) × (now (image .exit) ≡ start (now (plan .entry)) (now (image .entry)) .image) ⌝ }
@@ -25,7 +25,7 @@ pub extern "C" fn yard_start(plan: &[u8], image: &mut [u8]) -> u32
     answer::packed(calls::start(plan, image))
 }
 
-// Whether a lane's image is lawful and its moves can be listed: accepted, or refused with 1 to 14.
+// Whether a lane's image is lawful and its moves can be listed: accepted, or refused with 1 to 14 or 20.
 #[no_mangle]
 pub extern "C" fn yard_offered(plan: &[u8], image: &[u8]) -> u32
     ensures { λ r. ⌜ r ≡ packed (called (now (plan .entry)) (now (image .entry)) offered .answer) ⌝ }
@@ -44,7 +44,7 @@ pub extern "C" fn yard_offered_bits(plan: &[u8], image: &[u8]) -> u64
     offer.bits
 }
 
-// Tries one move: committed, cancelled, or refused with 1 to 14 or 16 to 19.
+// Tries one move: committed, cancelled, or refused with 1 to 14 or 16 to 20.
 #[no_mangle]
 pub extern "C" fn yard_try(plan: &[u8], image: &mut [u8], interaction: u32) -> u32
     ensures { λ r. ⌜ (r ≡ packed (called (now (plan .entry)) (now (image .entry)) (try interaction) .answer)) × (now (image .exit) ≡ called (now (plan .entry)) (now (image .entry)) (try interaction) .image) ⌝ }
@@ -52,7 +52,7 @@ pub extern "C" fn yard_try(plan: &[u8], image: &mut [u8], interaction: u32) -> u
     answer::packed(calls::try_move(plan, image, interaction))
 }
 
-// Settles on the lowest safe move: committed, stalled, penned, or refused with 1 to 14.
+// Settles on the lowest safe move: committed, stalled, penned, or refused with 1 to 14 or 20.
 #[no_mangle]
 pub extern "C" fn yard_settle(plan: &[u8], image: &mut [u8]) -> u32
     ensures { λ r. ⌜ (r ≡ packed (called (now (plan .entry)) (now (image .entry)) settle .answer)) × (now (image .exit) ≡ called (now (plan .entry)) (now (image .entry)) settle .image) ⌝ }

@@ -1,52 +1,17 @@
 // Runs the calls on an image: for each case a line with the case and what the call answered.
 use crate::Buffer;
+use crate::Call;
+use crate::Image;
+use crate::LONGER;
+use crate::afresh;
 use crate::lay;
+use crate::line;
+use crate::number;
 use crate::poke;
 use crate::put;
 use crate::put_words;
-use crate::say;
-
-// Memory for an image of 312 bytes, and for one that is a byte too long.
-type Image = [u8; 313];
-
-// Kind 6, which is no answer: a part was longer than the memory it is of.
-const LONGER: u32 = 6 * 65536;
-
-// A call of the engine.
-enum Call {
-    Check,
-    Start,
-    Offered,
-    Try(u32),
-    Settle,
-}
-
-// What a call answers.
-fn answer(call: Call, plan: &[u8], image: &mut [u8]) -> u32 {
-    match call {
-        Call::Check => yard::yard_check(plan),
-        Call::Start => yard::yard_start(plan, image),
-        Call::Offered => yard::yard_offered(plan, image),
-        Call::Try(interaction) => yard::yard_try(plan, image, interaction),
-        Call::Settle => yard::yard_settle(plan, image),
-    }
-}
-
-// What a call answers on the first size bytes of the image.
-fn partly(call: Call, plan: &[u8], image: &mut [u8], size: usize) -> u32 {
-    if size > image.len() {
-        return LONGER;
-    }
-    answer(call, plan, &mut image[..size])
-}
-
-// The same with the plan in the first len bytes of buf.
-fn called(call: Call, buf: &[u8], len: usize, image: &mut Image, size: usize) -> u32 {
-    if len > buf.len() {
-        return LONGER;
-    }
-    partly(call, &buf[..len], image, size)
-}
+use crate::sized;
+use crate::spoilt;
 
 // The offered bits of the first size bytes of the image.
 fn partly_bits(plan: &[u8], image: &[u8], size: usize) -> u64 {
@@ -64,50 +29,15 @@ fn called_bits(buf: &[u8], len: usize, image: &Image, size: usize) -> u64 {
     partly_bits(&buf[..len], image, size)
 }
 
-// The line of a call with the plan in the first len bytes of buf and the first size bytes of the
-// image.
-fn sized(label: &[u8], call: Call, buf: &Buffer, len: usize, image: &mut Image, size: usize) {
-    io::write_all(1, label);
-    io::write_all(1, b": ");
-    say(called(call, buf, len, image, size));
-}
-
-// The line of the offered bits, of the same.
+// The line of the offered bits, with the plan in the first len bytes of buf and the first size bytes
+// of the image.
 fn sized_bits(label: &[u8], buf: &Buffer, len: usize, image: &Image, size: usize) {
-    io::write_all(1, label);
-    io::write_all(1, b": ");
-    io::print_decimal(1, called_bits(buf, len, image, size));
-    io::write_all(1, b"\n");
-}
-
-// The line of a call on the image as it is.
-fn line(label: &[u8], call: Call, buf: &Buffer, len: usize, image: &mut Image) {
-    sized(label, call, buf, len, image, 312);
+    number(label, called_bits(buf, len, image, size));
 }
 
 // The line of the offered bits of the image as it is.
 fn bits(label: &[u8], buf: &Buffer, len: usize, image: &Image) {
     sized_bits(label, buf, len, image, 312);
-}
-
-// Starts the image, with no line.
-fn start(buf: &Buffer, len: usize, image: &mut Image) {
-    called(Call::Start, buf, len, image, 312);
-}
-
-// The line of a call on an image that has just been started.
-fn afresh(label: &[u8], call: Call, buf: &Buffer, len: usize, image: &mut Image) {
-    start(buf, len, image);
-    line(label, call, buf, len, image);
-}
-
-// The line of a settling on a started image of which one byte was changed.
-fn spoilt(label: &[u8], buf: &Buffer, len: usize, image: &mut Image, at: usize, v: u8) {
-    start(buf, len, image);
-    if at < image.len() {
-        image[at] = v;
-    }
-    line(label, Call::Settle, buf, len, image);
 }
 
 // The sample lane, but its transitions are t as lay makes them. Gives its length.
@@ -221,7 +151,6 @@ fn forms(buf: &mut Buffer, image: &mut Image) {
     spoilt(b"wrong letters in the image", buf, len, image, 0, b'B');
     spoilt(b"form 2", buf, len, image, 4, 2);
     spoilt(b"image of another count", buf, len, image, 5, 2);
-    spoilt(b"byte 9 of the image not zero", buf, len, image, 9, 1);
     spoilt(b"image of another plan number", buf, len, image, 12, 8);
 }
 
@@ -230,6 +159,8 @@ fn states(buf: &mut Buffer, image: &mut Image) {
     let len = sample(buf);
     spoilt(b"oracle state not below S", buf, len, image, 8, 2);
     spoilt(b"oracle state bad", buf, len, image, 8, 1);
+    spoilt(b"byte 9 of the image not zero", buf, len, image, 9, 1);
+    spoilt(b"byte 11 of the image not zero", buf, len, image, 11, 1);
     spoilt(b"location out of range", buf, len, image, 24, 3);
     spoilt(b"last port out of range", buf, len, image, 40, 3);
     spoilt(b"unused location filled", buf, len, image, 25, 1);

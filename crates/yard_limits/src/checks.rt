@@ -1,11 +1,11 @@
 // Runs the plan check at its limits: for each case a line with the case and the answer.
 use crate::Buffer;
+use crate::ask;
 use crate::lay;
 use crate::poke;
 use crate::poke16;
 use crate::put_words;
 use crate::repeat;
-use crate::say;
 use crate::small;
 
 // Places of the plan with one of each but no proposition: the lengths of the guard and of the
@@ -15,17 +15,6 @@ const GUARD: usize = 66;
 const ACTION: usize = 70;
 
 const CODE: usize = 106;
-
-// The line of a case whose plan is the first len bytes of buf.
-fn ask(label: &[u8], buf: &[u8], len: usize) {
-    io::write_all(1, label);
-    io::write_all(1, b": ");
-    if len <= buf.len() {
-        say(yard::yard_check(&buf[..len]));
-    } else {
-        io::write_all(1, b"longer than the buffer\n");
-    }
-}
 
 // A plan of the counts C V T I K S W.
 fn counted(label: &[u8], buf: &mut Buffer, c: u16, v: u16, t: u16, i: u16, k: u16, s: u16, w: u16) {
@@ -146,6 +135,7 @@ fn headers(buf: &mut Buffer) {
     sliced(b"plan of 47 bytes", buf, 47);
     sliced(b"plan of no bytes", buf, 0);
     changed(b"wrong letters", buf, 3, b'M');
+    changed(b"byte 46 not zero", buf, 46, 1);
     changed(b"byte 47 not zero", buf, 47, 1);
     sliced(b"one byte more than the plan says", buf, 114);
     sliced(b"one byte less than the plan says", buf, 112);

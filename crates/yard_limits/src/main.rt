@@ -1,13 +1,21 @@
-// Runs the plan check, and then the calls on an image, at their limits: for each case a line with the
-// case and the answer. The cases stand in checks and calls. What both need stands here, private to
-// them: lawful plans laid into a buffer, and the end of a line.
+// Runs the plan check, the calls on an image, and both with added oracles, at their limits: for each
+// case a line with the case and the answer. What the modules of the cases share stands here, private
+// to them: lawful plans laid into a buffer, and the lines of the calls.
 mod calls;
 mod checks;
+mod oracle_calls;
+mod oracle_checks;
 
 ghost use Prim.Native.Nat.{_≤_};
 
 // As io::large_buffer makes it.
 type Buffer = [u8; 65536];
+
+// Memory for an image of 312 bytes, and for one that is a byte too long.
+type Image = [u8; 313];
+
+// Kind 6, which is no answer: a part was longer than the memory it is of.
+const LONGER: u32 = 6 * 65536;
 
 // Writes one byte; nothing here is written past the buffer's end.
 fn poke(buf: &mut Buffer, at: usize, v: u8) {
@@ -111,6 +119,13 @@ fn small(buf: &mut Buffer) -> usize {
     lay(buf, 1, 1, 1, 1, 1, 1, 1)
 }
 
+// Makes of a plan one whose first oracle has the first s states of the oracle section only. The rest
+// are of the added oracles: how many these are, and the states of each, are bytes 42 to 45.
+fn split(buf: &mut Buffer, s: u16, added: &[u8; 4]) {
+    poke16(buf, 20, s);
+    put(buf, 42, added);
+}
+
 // The answers that have a number, and what is no answer at all.
 fn say_number(answer: u32) {
     let kind = answer / 65536;
@@ -142,8 +157,98 @@ fn say(answer: u32) {
     io::write_all(1, b"\n");
 }
 
+// The line of a number.
+fn number(label: &[u8], n: u64) {
+    io::write_all(1, label);
+    io::write_all(1, b": ");
+    io::print_decimal(1, n);
+    io::write_all(1, b"\n");
+}
+
+// The line of a case whose plan is the first len bytes of buf.
+fn ask(label: &[u8], buf: &[u8], len: usize) {
+    io::write_all(1, label);
+    io::write_all(1, b": ");
+    if len <= buf.len() {
+        say(yard::yard_check(&buf[..len]));
+    } else {
+        io::write_all(1, b"longer than the buffer\n");
+    }
+}
+
+// A call of the engine.
+enum Call {
+    Check,
+    Start,
+    Offered,
+    Try(u32),
+    Settle,
+}
+
+// What a call answers.
+fn answer(call: Call, plan: &[u8], image: &mut [u8]) -> u32 {
+    match call {
+        Call::Check => yard::yard_check(plan),
+        Call::Start => yard::yard_start(plan, image),
+        Call::Offered => yard::yard_offered(plan, image),
+        Call::Try(interaction) => yard::yard_try(plan, image, interaction),
+        Call::Settle => yard::yard_settle(plan, image),
+    }
+}
+
+// What a call answers on the first size bytes of the image.
+fn partly(call: Call, plan: &[u8], image: &mut [u8], size: usize) -> u32 {
+    if size > image.len() {
+        return LONGER;
+    }
+    answer(call, plan, &mut image[..size])
+}
+
+// The same with the plan in the first len bytes of buf.
+fn called(call: Call, buf: &[u8], len: usize, image: &mut Image, size: usize) -> u32 {
+    if len > buf.len() {
+        return LONGER;
+    }
+    partly(call, &buf[..len], image, size)
+}
+
+// The line of a call with the plan in the first len bytes of buf and the first size bytes of the
+// image.
+fn sized(label: &[u8], call: Call, buf: &Buffer, len: usize, image: &mut Image, size: usize) {
+    io::write_all(1, label);
+    io::write_all(1, b": ");
+    say(called(call, buf, len, image, size));
+}
+
+// The line of a call on the image as it is.
+fn line(label: &[u8], call: Call, buf: &Buffer, len: usize, image: &mut Image) {
+    sized(label, call, buf, len, image, 312);
+}
+
+// Starts the image, with no line.
+fn start(buf: &Buffer, len: usize, image: &mut Image) {
+    called(Call::Start, buf, len, image, 312);
+}
+
+// The line of a call on an image that has just been started.
+fn afresh(label: &[u8], call: Call, buf: &Buffer, len: usize, image: &mut Image) {
+    start(buf, len, image);
+    line(label, call, buf, len, image);
+}
+
+// The line of a settling on a started image of which one byte was changed.
+fn spoilt(label: &[u8], buf: &Buffer, len: usize, image: &mut Image, at: usize, v: u8) {
+    start(buf, len, image);
+    if at < image.len() {
+        image[at] = v;
+    }
+    line(label, Call::Settle, buf, len, image);
+}
+
 // Every case, in the order of the stored output.
 fn main() {
     checks::run();
     calls::run();
+    oracle_checks::run();
+    oracle_calls::run();
 }

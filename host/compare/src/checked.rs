@@ -3,6 +3,7 @@
 use reference::answer::Answer;
 use reference::calls;
 
+use crate::causes::cause;
 use crate::difference::Difference;
 use crate::engines::{Call, Engine, Reply, BASELINE, LIBRARY};
 use crate::fault::{self, Case};
@@ -32,6 +33,8 @@ struct Question<'a> {
 pub struct Comparer {
     seed: u64,
     library: Engine,
+    /// The engines that are lent their buffers at one end in turn.
+    others: Vec<Engine>,
     lent: Lent,
 }
 
@@ -45,11 +48,25 @@ impl Comparer {
         Comparer {
             seed,
             library,
+            others: vec![BASELINE],
             lent: Lent::new(IMAGE_ROOM),
         }
     }
 
-    /// Holds the library, lent its buffers at either end, and the C baseline, at one end in turn, against the reference.
+    /// With one more engine.
+    pub fn and(mut self, engine: Engine) -> Comparer {
+        self.others.push(engine);
+        self
+    }
+
+    /// The names of all that are compared.
+    pub fn names(&self) -> String {
+        let engines = [&self.library].into_iter().chain(&self.others);
+        let names = engines.map(|engine| engine.name).chain(["reference"]);
+        names.collect::<Vec<_>>().join(", ")
+    }
+
+    /// Holds the library, lent its buffers at either end, and the others, at one end in turn, against the reference.
     pub fn compare(
         &mut self,
         tally: &mut Tally,
@@ -59,6 +76,9 @@ impl Comparer {
     ) -> Checked<Outcome> {
         let outcome = by_reference(call, plan.bytes(), image);
         tally.count(call, outcome.answer);
+        if let Some(cause) = cause(plan.bytes(), image, outcome.answer) {
+            tally.cause(cause);
+        }
         let question = Question {
             call,
             number: tally.calls,
@@ -69,7 +89,9 @@ impl Comparer {
             self.hold(self.library, end, &question, &outcome)?;
         }
         let in_turn = ENDS[tally.calls as usize % 2];
-        self.hold(BASELINE, in_turn, &question, &outcome)?;
+        for n in 0..self.others.len() {
+            self.hold(self.others[n], in_turn, &question, &outcome)?;
+        }
         Ok(outcome)
     }
 

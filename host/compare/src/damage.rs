@@ -3,25 +3,35 @@
 use reference::draft::{Component, Draft, Interaction, OracleState, Span, Transition, Variable};
 
 use crate::rng::Rng;
-use crate::spoil;
+use crate::{oracle, spoil};
 
 type Way<T> = fn(&mut Rng, &mut T);
 
 /// Ways that change records; counts, offsets and length then follow.
-const RECORDS: [Way<Draft>; 8] = [
+const RECORDS: [Way<Draft>; 10] = [
     count,
     component,
     variable,
     transition,
     interaction,
     rank,
-    oracle,
+    first_oracle,
+    added_oracle,
+    another_number_of_oracles,
     spoil::code,
 ];
 
 /// Ways that change the written bytes.
-const BYTES: [Way<Vec<u8>>; 8] = [
-    shortened, lengthened, letters, zeros, counts, layout, flipped, flipped,
+const BYTES: [Way<Vec<u8>>; 9] = [
+    shortened,
+    lengthened,
+    letters,
+    zeros,
+    counts,
+    added_counts,
+    layout,
+    flipped,
+    flipped,
 ];
 
 /// A plan with one or two faults.
@@ -64,16 +74,16 @@ fn repeat<T: Clone>(records: &mut Vec<T>, count: usize) {
 }
 
 fn count(rng: &mut Rng, draft: &mut Draft) {
-    match rng.below(11) {
+    match rng.below(14) {
         0 => repeat(&mut draft.components, 17),
         1 => repeat(&mut draft.variables, 65),
         2 => repeat(&mut draft.transitions, 257),
         3 => repeat(&mut draft.interactions, 65),
         4 => {
             repeat(&mut draft.propositions, 5);
-            draft
-                .oracle
-                .iter_mut()
+            let states = draft.oracle.iter_mut();
+            states
+                .chain(draft.added.iter_mut().flatten())
                 .for_each(|state| state.next.resize(32, 0));
         }
         5 => repeat(&mut draft.oracle, 33),
@@ -81,7 +91,14 @@ fn count(rng: &mut Rng, draft: &mut Draft) {
         7 => draft.first = draft.oracle.len() as u16 + rng.below(3) as u16,
         8 => draft.components.clear(),
         9 => draft.interactions.clear(),
-        _ => draft.oracle.clear(),
+        10 => draft.oracle.clear(),
+        11 => repeat(&mut draft.added, 4),
+        _ => {
+            let states = rng.pick(&[0, 33]);
+            if let Some(oracle) = any(rng, &mut draft.added) {
+                repeat(oracle, states);
+            }
+        }
     }
 }
 
@@ -174,9 +191,31 @@ fn rank(rng: &mut Rng, draft: &mut Draft) {
     }
 }
 
-fn oracle(rng: &mut Rng, draft: &mut Draft) {
-    let states = draft.oracle.len() as u8;
-    let Some(OracleState { verdict, next }) = any(rng, &mut draft.oracle) else {
+fn first_oracle(rng: &mut Rng, draft: &mut Draft) {
+    table(rng, &mut draft.oracle);
+}
+
+fn added_oracle(rng: &mut Rng, draft: &mut Draft) {
+    if let Some(oracle) = any(rng, &mut draft.added) {
+        table(rng, oracle);
+    }
+}
+
+/// Takes an added oracle away, or adds a lawful one, where there may be one more.
+fn another_number_of_oracles(rng: &mut Rng, draft: &mut Draft) {
+    if draft.added.len() >= 3 || rng.chance(50) {
+        draft.added.pop();
+    } else {
+        let states = rng.pick(&[1, 2, 5, 32]);
+        let letters = 1 << draft.propositions.len().min(4);
+        draft.added.push(oracle::states(rng, states, letters));
+    }
+}
+
+/// Changes an oracle's table.
+fn table(rng: &mut Rng, oracle: &mut [OracleState]) {
+    let states = oracle.len() as u8;
+    let Some(OracleState { verdict, next }) = any(rng, oracle) else {
         return;
     };
     let letter = rng.below(next.len());
@@ -225,7 +264,18 @@ fn letters(rng: &mut Rng, bytes: &mut Vec<u8>) {
 }
 
 fn zeros(rng: &mut Rng, bytes: &mut Vec<u8>) {
-    bytes[rng.between(42, 47)] ^= 1 << rng.below(8);
+    bytes[rng.between(46, 47)] ^= 1 << rng.below(8);
+}
+
+/// Changes the number of added oracles or the states of one, used or not.
+fn added_counts(rng: &mut Rng, bytes: &mut Vec<u8>) {
+    let at = rng.between(42, 45);
+    bytes[at] = match rng.below(4) {
+        0 => bytes[at].wrapping_add(1),
+        1 => bytes[at].wrapping_sub(1),
+        2 => rng.pick(&[0, 1, 4, 32, 33]),
+        _ => bytes[at] ^ 1 << rng.below(8),
+    };
 }
 
 /// Changes the 16-bit field at an offset by a little or at random.
@@ -267,15 +317,16 @@ mod tests {
     use super::*;
     use crate::generate;
     use reference::calls;
+    use std::collections::BTreeSet;
 
     #[test]
-    fn damaged_plans_meet_every_refusal_from_1_to_10_and_some_are_lawful() {
+    fn damaged_plans_meet_every_refusal_of_a_plan_and_some_are_lawful() {
         let mut rng = Rng::new(1);
-        let mut met = [false; 11];
+        let mut met = BTreeSet::new();
         for _ in 0..2000 {
             let lawful = generate::plan(&mut rng).draft;
-            met[calls::check(&plan(&mut rng, &lawful)).number() as usize] = true;
+            met.insert(calls::check(&plan(&mut rng, &lawful)).number());
         }
-        assert_eq!(met, [true; 11]);
+        assert_eq!(met, (0..=10).chain([20]).collect());
     }
 }

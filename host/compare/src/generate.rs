@@ -21,17 +21,19 @@ struct Sizes {
     interactions: usize,
     propositions: usize,
     states: usize,
+    /// The states of each added oracle.
+    added: Vec<usize>,
     words: usize,
 }
 
-const SMALL: [usize; 7] = [3, 4, 20, 6, 2, 5, 90];
-const MEDIUM: [usize; 7] = [8, 20, 80, 20, 3, 10, 900];
-const MOST: [usize; 7] = [16, 64, 256, 64, 4, 32, 4096];
-const LEAST: [usize; 7] = [1, 0, 0, 1, 0, 1, 0];
-const LIVELY: [usize; 7] = [1, 0, 8, 2, 1, 2, 8];
+const SMALL: [usize; 8] = [3, 4, 20, 6, 2, 5, 90, 5];
+const MEDIUM: [usize; 8] = [8, 20, 80, 20, 3, 10, 900, 10];
+const MOST: [usize; 8] = [16, 64, 256, 64, 4, 32, 4096, 32];
+const LEAST: [usize; 8] = [1, 0, 0, 1, 0, 1, 0, 1];
+const LIVELY: [usize; 8] = [1, 0, 8, 2, 1, 2, 8, 1];
 
 impl Sizes {
-    fn new(rng: &mut Rng) -> Sizes {
+    fn new(rng: &mut Rng, added: usize) -> Sizes {
         let most = match rng.below(100) {
             0..=11 => MOST,
             12..=31 => MEDIUM,
@@ -54,6 +56,7 @@ impl Sizes {
             interactions: size(3),
             propositions: size(4).min(words),
             states: size(5),
+            added: (0..added).map(|_| size(7)).collect(),
             words,
         }
     }
@@ -61,7 +64,13 @@ impl Sizes {
 
 /// A lawful plan; its starting state is bad now and then.
 pub fn plan(rng: &mut Rng) -> Generated {
-    let sizes = Sizes::new(rng);
+    let added = rng.pick(&[0, 0, 0, 1, 1, 2, 2, 3]);
+    with_added(rng, added)
+}
+
+/// A lawful plan with so many added oracles.
+pub fn with_added(rng: &mut Rng, added: usize) -> Generated {
+    let sizes = Sizes::new(rng, added);
     let mut writer = Writer::new(rng, sizes.words);
     let mut draft = Draft {
         number: rng.next() as u32,
@@ -84,7 +93,7 @@ pub fn plan(rng: &mut Rng) -> Generated {
     writer.fill(rng);
     draft.code = writer.code;
     ranks(rng, &mut draft.interactions);
-    choose_oracle(rng, &mut draft, sizes.states);
+    choose_oracles(rng, &mut draft, &sizes);
     Generated {
         draft,
         depth: writer.deepest,
@@ -260,27 +269,37 @@ fn close(interactions: &mut [Interaction]) {
     }
 }
 
-/// Gives the draft the liveliest of a few oracles, or the first that is lively enough.
-fn choose_oracle(rng: &mut Rng, draft: &mut Draft, states: usize) {
+/// Gives the draft its oracles, one after the other.
+fn choose_oracles(rng: &mut Rng, draft: &mut Draft, sizes: &Sizes) {
+    let letters = 1 << sizes.propositions;
+    liveliest(rng, draft, |rng, draft| {
+        draft.oracle = oracle::states(rng, sizes.states, letters);
+        draft.first = rng.below(sizes.states) as u16;
+    });
+    for (k, &states) in sizes.added.iter().enumerate() {
+        liveliest(rng, draft, |rng, draft| {
+            draft.added.truncate(k);
+            draft.added.push(oracle::states(rng, states, letters));
+        });
+    }
+}
+
+/// The draft as it is liveliest after a few ways to renew it, or after the first that makes it lively enough.
+fn liveliest(rng: &mut Rng, draft: &mut Draft, renew: impl Fn(&mut Rng, &mut Draft)) {
     let wanted = rng.pick(&[0, 1, 1, 2, 3, 3, 3, 3, 3, 3]);
-    let mut best = (
-        0,
-        oracle::states(rng, states, 1 << draft.propositions.len()),
-        0,
-    );
+    let mut best = (0, draft.clone());
     for _ in 0..10 {
-        draft.oracle = oracle::states(rng, states, 1 << draft.propositions.len());
-        draft.first = rng.below(states) as u16;
+        renew(rng, draft);
         let plan = Plan::read(&draft.bytes()).expect("a generated plan is lawful");
         let found = liveliness(&plan);
         if found >= best.0 {
-            best = (found, draft.oracle.clone(), draft.first);
+            best = (found, draft.clone());
         }
         if found >= wanted {
             break;
         }
     }
-    (_, draft.oracle, draft.first) = best;
+    *draft = best.1;
 }
 
 /// 0 for a bad start, 1 for a good one, 2 where moves from it end bad, 3 where only some do.
@@ -295,5 +314,28 @@ fn liveliness(plan: &Plan) -> usize {
         (_, true) => 1,
         (true, false) => 2,
         (false, false) => 3,
+    }
+}
+
+#[cfg(test)]
+mod tests {
+    use super::*;
+
+    #[test]
+    fn one_oracle_more_turns_no_bad_move_good() {
+        let mut rng = Rng::new(3);
+        for n in 0..900 {
+            let mut draft = with_added(&mut rng, 1 + n % 3).draft;
+            let more = Plan::read(&draft.bytes()).unwrap();
+            draft.added.pop();
+            let fewer = Plan::read(&draft.bytes()).unwrap();
+            let (one, other) = (Lane::start(&more), Lane::start(&fewer));
+            assert!(other.good(&fewer) || !one.good(&more));
+            for i in 0..draft.interactions.len() {
+                let (one, other) = (one.after(&more, i), other.after(&fewer, i));
+                assert_eq!(one.is_some(), other.is_some());
+                assert!(other.is_none_or(|end| end.good(&fewer)) || !one.unwrap().good(&more));
+            }
+        }
     }
 }

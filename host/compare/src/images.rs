@@ -22,18 +22,26 @@ pub fn damaged(rng: &mut Rng, image: &[u8], draft: &Draft, other: &[u8]) -> Vec<
 /// Changes one byte or mark of the 312.
 fn damage_once(rng: &mut Rng, bytes: &mut [u8], draft: &Draft) {
     let component = rng.below(draft.components.len());
-    match rng.below(12) {
+    match rng.below(14) {
         0 => bytes[rng.below(16)] ^= 1 << rng.below(8),
         1 => bytes[8] = rng.below(draft.oracle.len() + 2) as u8,
-        2 => bytes[24 + component] = rng.below(17) as u8,
-        3 => bytes[40 + component] = port(rng),
-        4 => bytes[rng.between(24, 55)] ^= 1 << rng.below(8),
-        5 => bytes[rng.between(56, 311)] ^= 1 << rng.below(8),
-        6 => bytes[rng.between(9, 15)] = rng.byte(),
-        7 => bytes[16..24].fill(rng.byte()),
-        8..=10 => toggle_mark(rng, bytes, draft.interactions.len() + 1),
+        2 | 3 => added_state(rng, bytes, draft),
+        4 => bytes[24 + component] = rng.below(17) as u8,
+        5 => bytes[40 + component] = port(rng),
+        6 => bytes[rng.between(24, 55)] ^= 1 << rng.below(8),
+        7 => bytes[rng.between(56, 311)] ^= 1 << rng.below(8),
+        8 => bytes[rng.between(9, 15)] = rng.byte(),
+        9 => bytes[16..24].fill(rng.byte()),
+        10..=12 => toggle_mark(rng, bytes, draft.interactions.len() + 1),
         _ => bytes[rng.below(312)] = rng.byte(),
     }
+}
+
+/// Gives an added oracle, used or not, another state.
+fn added_state(rng: &mut Rng, bytes: &mut [u8], draft: &Draft) {
+    let k = rng.below(3);
+    let states = draft.added.get(k).map_or(0, Vec::len);
+    bytes[9 + k] = rng.below(states + 2) as u8;
 }
 
 fn port(rng: &mut Rng) -> u8 {
@@ -79,7 +87,9 @@ pub fn redressed(rng: &mut Rng, image: &[u8], draft: &Draft) -> Vec<u8> {
     for n in 0..draft.variables.len() {
         bytes[56 + 4 * n..][..4].copy_from_slice(&generate::value(rng).to_le_bytes());
     }
-    bytes[8] = rng.below(draft.oracle.len()) as u8;
+    for (n, oracle) in [&draft.oracle].into_iter().chain(&draft.added).enumerate() {
+        bytes[8 + n] = rng.below(oracle.len()) as u8;
+    }
     bytes[16..24].fill(0);
     if rng.chance(30) {
         toggle_mark(rng, &mut bytes, draft.interactions.len());

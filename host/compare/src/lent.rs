@@ -5,7 +5,7 @@ use std::ops::Range;
 use crate::pages::Pages;
 
 /// The longest damaged plan has fewer bytes.
-const PLAN_ROOM: usize = 20_000;
+const PLAN_ROOM: usize = 24_000;
 
 /// The end of a lent buffer that touches memory without access.
 #[derive(Clone, Copy, Debug, PartialEq, Eq)]

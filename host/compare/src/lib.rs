@@ -2,7 +2,9 @@
 #![deny(unsafe_code)]
 
 pub mod baseline;
+pub mod causes;
 pub mod checked;
+pub mod command;
 pub mod damage;
 pub mod difference;
 pub mod engines;

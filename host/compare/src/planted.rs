@@ -7,7 +7,7 @@ use std::{env, ptr};
 use crate::checked::Comparer;
 use crate::engines::{Engine, LIBRARY};
 use crate::fault;
-use crate::sequences::Session;
+use crate::sequences::{Plans, Session};
 
 /// The variable that tells a process which fault to plant.
 const CHOSEN: &str = "PLANTED";
@@ -53,7 +53,7 @@ fn with_the_chosen_fault() {
         .into_iter()
         .find(|engine| engine.name == chosen);
     fault::watch();
-    let mut session = Session::new(1, Comparer::with(1, engine.unwrap()));
+    let mut session = Session::new(1, Plans::All, Comparer::with(1, engine.unwrap()));
     while session.tally.calls < 10_000 {
         assert!(session.round().is_ok());
     }

@@ -5,8 +5,10 @@ use std::fmt;
 use reference::answer::Answer;
 use reference::draft::Draft;
 
+use crate::causes::{Cause, CAUSES};
 use crate::engines::Call;
 use crate::generate::Generated;
+use crate::sequences::Plans;
 
 const CALLS: [&str; 6] = ["check", "start", "offered", "bits", "try", "settle"];
 const KINDS: [&str; 6] = [
@@ -17,13 +19,15 @@ const KINDS: [&str; 6] = [
     "penned",
     "refused",
 ];
-const SIZES: [&str; 9] = [
+const SIZES: [&str; 11] = [
     "components",
     "variables",
     "transitions",
     "interactions",
     "propositions",
     "oracle states",
+    "added oracles",
+    "states of an added one",
     "code words",
     "words in a span",
     "depth",
@@ -33,9 +37,10 @@ const SIZES: [&str; 9] = [
 pub struct Tally {
     pub calls: u64,
     answers: [[u64; 6]; 6],
-    refusals: [u64; 20],
+    refusals: [u64; 21],
+    causes: [u64; CAUSES.len()],
     plans: u64,
-    largest: [usize; 9],
+    largest: [usize; 11],
     book: u64,
     most_moves: usize,
 }
@@ -47,6 +52,10 @@ impl Tally {
         if let Answer::Refused(refusal) = answer {
             self.refusals[refusal as usize] += 1;
         }
+    }
+
+    pub fn cause(&mut self, cause: Cause) {
+        self.causes[cause as usize] += 1;
     }
 
     pub fn plan(&mut self, made: &Generated) {
@@ -62,18 +71,24 @@ impl Tally {
         self.most_moves = moves.max(self.most_moves);
     }
 
-    /// The answer kinds and refusals that never occurred.
-    pub fn missing(&self) -> Vec<String> {
+    /// The answer kinds, refusals and causes that never occurred, of those that such plans can have.
+    pub fn missing(&self, plans: Plans) -> Vec<String> {
+        let (refusals, causes) = match plans {
+            Plans::All => (1..21, &CAUSES[..]),
+            Plans::Old => (1..20, &[][..]),
+        };
         let kinds = (0..6).filter(|&kind| self.answers.iter().all(|row| row[kind] == 0));
-        let refusals = (1..20).filter(|&n| self.refusals[n] == 0);
+        let refusals = refusals.filter(|&n| self.refusals[n] == 0);
+        let causes = causes.iter().filter(|c| self.causes[c.0 as usize] == 0);
         kinds
             .map(|kind| KINDS[kind].to_string())
             .chain(refusals.map(|n| format!("refusal {n}")))
+            .chain(causes.map(|(_, name)| name.to_string()))
             .collect()
     }
 }
 
-fn sizes(made: &Generated) -> [usize; 9] {
+fn sizes(made: &Generated) -> [usize; 11] {
     let draft = &made.draft;
     [
         draft.components.len(),
@@ -82,6 +97,8 @@ fn sizes(made: &Generated) -> [usize; 9] {
         draft.interactions.len(),
         draft.propositions.len(),
         draft.oracle.len(),
+        draft.added.len(),
+        draft.added.iter().map(Vec::len).max().unwrap_or(0),
         draft.code.len(),
         longest_span(draft),
         made.depth,
@@ -116,6 +133,10 @@ impl fmt::Display for Tally {
         for (number, count) in self.refusals.iter().enumerate().skip(1) {
             let gap = if number % 7 == 1 { "\n " } else { "" };
             write!(f, "{gap} {number:2}:{count:<7}")?;
+        }
+        write!(f, "\n\nby added oracles")?;
+        for ((_, name), count) in CAUSES.iter().zip(self.causes) {
+            write!(f, "\n  {name}: {count}")?;
         }
         write!(f, "\n\n{} accepted plans; the largest sizes:", self.plans)?;
         for (n, (name, size)) in SIZES.iter().zip(self.largest).enumerate() {

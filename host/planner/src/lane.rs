@@ -32,6 +32,11 @@ impl Lane {
         yard::settle(&self.plan, &mut self.image)
     }
 
+    /// The state of an oracle: 0 is the first, the added ones follow.
+    pub fn oracle(&self, oracle: usize) -> u8 {
+        self.image[8 + oracle]
+    }
+
     pub fn location(&self, component: usize) -> u8 {
         self.image[24 + component]
     }

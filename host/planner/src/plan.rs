@@ -116,15 +116,30 @@ impl Plan {
         });
     }
 
+    /// Adds an oracle beside the first, with these states; it begins in its state 0.
+    pub fn added_oracle(&mut self, states: Vec<(Verdict, Vec<u8>)>) {
+        let state = |(verdict, next)| draft::OracleState {
+            verdict: verdict as u8,
+            next,
+        };
+        let states = states.into_iter().map(state).collect();
+        self.draft.added.push(states);
+    }
+
     pub fn first_oracle_state(&mut self, first: u16) {
         self.draft.first = first;
     }
 
     /// The oracle of an invariant: bad for good from the first event on in which a proposition is true.
     pub fn never_any_proposition(&mut self) {
+        self.never(usize::MAX);
+    }
+
+    /// The same for some of the propositions: those whose bits are set.
+    pub fn never(&mut self, propositions: usize) {
         let letters = 1 << self.draft.propositions.len();
-        let next = (0..letters).map(|letter| u8::from(letter != 0)).collect();
-        self.oracle_state(Verdict::CurrentlyTrue, next);
+        let next = (0..letters).map(|letter| u8::from(letter & propositions != 0));
+        self.oracle_state(Verdict::CurrentlyTrue, next.collect());
         self.oracle_state(Verdict::Bad, vec![1; letters]);
     }
 

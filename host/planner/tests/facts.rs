@@ -3,7 +3,7 @@
 use planner::drive::{drive, Disabler};
 use planner::lane::Lane;
 use planner::plan::Plan;
-use planner::plans::{chain, maximal, philosophers, robots, sample, tasks};
+use planner::plans::{chain, maximal, philosophers, robots, sample, tasks, wet_bales};
 use planner::rng::Rng;
 use yard::{Answer, CANCELLED, COMMITTED, REFUSED};
 
@@ -151,4 +151,99 @@ fn maximal_moves_with_cancelled_and_outranked_ones() {
     assert!(rollbacks > 50);
     let levels: i32 = (0..16).map(|bay| lane.value(4 * bay)).sum();
     assert_eq!(levels, 64);
+}
+
+#[test]
+fn maximal_with_oracles_is_the_longest_plan() {
+    let bytes = maximal::with_oracles().bytes();
+    assert_eq!(bytes[42..46], [3, 32, 32, 32]);
+    assert_eq!(
+        (bytes.len(), maximal::plan().bytes().len()),
+        (16_128, 14_496)
+    );
+}
+
+#[test]
+fn four_oracles_judge_as_the_one_that_they_share_out() {
+    let (mut one, mut four) = (lane(maximal::plan()), lane(maximal::with_oracles()));
+    let mut rng = Rng(3);
+    let mut cancelled = 0;
+    for _ in 0..2000 {
+        let offered = one.offered();
+        assert_eq!(four.offered(), offered);
+        let tried = rng.bit(offered);
+        let answer = one.attempt(tried);
+        assert_eq!(four.attempt(tried), answer);
+        assert_eq!(four.image[16..], one.image[16..]);
+        cancelled += usize::from(answer.kind == CANCELLED);
+    }
+    assert!(cancelled > 20);
+    let states = [0, 1, 2, 3].map(|n| four.oracle(n));
+    assert!(states[0] == one.oracle(0) && states[1..] != [0; 3]);
+}
+
+const STORE: u32 = 0;
+const WEIGH: u32 = 1;
+const DRY: u32 = 2;
+const BRING_WET: u32 = 3;
+const BRING_DRY: u32 = 4;
+const SHIP: u32 = 5;
+
+#[test]
+fn a_wet_bale_is_stored_under_the_common_rule_and_not_under_the_depots() {
+    let (mut common, mut depot) = (lane(wet_bales::common()), lane(wet_bales::plan()));
+    for lane in [&mut common, &mut depot] {
+        commit(lane, &[BRING_WET, WEIGH]);
+    }
+    commit(&mut common, &[STORE]);
+    let [stored, weight] = [2, 3].map(|v| common.value(v));
+    assert_eq!((stored, weight), (1, 570));
+    // The same move is cancelled: its mark is set, and no other byte differs.
+    let mut marked = depot.image;
+    marked[16] |= 1 << STORE;
+    assert_eq!((depot.oracle(0), depot.oracle(1)), (0, 1));
+    assert_eq!(depot.attempt(STORE), answer(CANCELLED, STORE));
+    assert_eq!(depot.image, marked);
+    assert_eq!(depot.offered(), 1 << DRY);
+    // Dried and weighed anew, the bale is stored.
+    commit(&mut depot, &[DRY, WEIGH, STORE]);
+    assert_eq!((depot.value(2), depot.value(3)), (1, 450));
+}
+
+#[test]
+fn no_bale_is_stored_unweighed_under_either_rule() {
+    for plan in [wet_bales::common(), wet_bales::plan()] {
+        let mut lane = lane(plan);
+        for bring in [BRING_DRY, BRING_WET] {
+            commit(&mut lane, &[bring]);
+            assert_eq!(lane.attempt(STORE), answer(CANCELLED, STORE));
+            commit(&mut lane, &[WEIGH]);
+            if bring == BRING_DRY {
+                commit(&mut lane, &[STORE, SHIP]);
+            }
+        }
+    }
+}
+
+#[test]
+fn what_the_depot_lets_pass_the_common_rule_does_too() {
+    let (mut common, mut depot) = (lane(wet_bales::common()), lane(wet_bales::plan()));
+    let mut rng = Rng(5);
+    for _ in 0..2000 {
+        let tried = rng.bit(depot.offered());
+        match depot.attempt(tried).kind {
+            COMMITTED => commit(&mut common, &[tried]),
+            _ => assert_eq!(tried, STORE),
+        }
+    }
+    assert_eq!(depot.image[24..], common.image[24..]);
+}
+
+#[test]
+fn settling_dries_each_wet_bale() {
+    let bale = [BRING_WET, WEIGH, DRY, WEIGH, STORE];
+    let mut expected = bale.repeat(4);
+    expected.extend([BRING_WET, WEIGH, DRY, WEIGH, SHIP, STORE]);
+    let mut lane = lane(wet_bales::plan());
+    assert_eq!(settled(&mut lane, expected.len()), expected);
 }

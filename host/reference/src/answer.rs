@@ -12,6 +12,7 @@ pub enum Refusal {
     Interaction = 7,
     Rank = 8,
     Oracle = 9,
+    AddedOracle = 20,
     Code = 10,
     ImageLength = 11,
     OtherPlan = 12,

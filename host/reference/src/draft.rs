@@ -55,6 +55,8 @@ pub struct Draft {
     pub interactions: Vec<Interaction>,
     pub propositions: Vec<Span>,
     pub oracle: Vec<OracleState>,
+    /// The added oracles, each with its states; three at most in a lawful plan.
+    pub added: Vec<Vec<OracleState>>,
     pub code: Vec<u16>,
 }
 
@@ -73,7 +75,8 @@ impl Draft {
         for field in [end as u16].iter().chain(&self.counts()).chain(&offsets) {
             bytes.extend(field.to_le_bytes());
         }
-        bytes.extend([0; 6]);
+        bytes.extend(self.added_counts());
+        bytes.extend([0; 2]);
         bytes.extend(sections.concat());
         bytes
     }
@@ -92,7 +95,14 @@ impl Draft {
         ]
     }
 
+    /// The bytes 42 to 45: how many oracles are added, and the states of each.
+    fn added_counts(&self) -> [u8; 4] {
+        let states = |k: usize| self.added.get(k).map_or(0, |oracle| oracle.len() as u8);
+        [self.added.len() as u8, states(0), states(1), states(2)]
+    }
+
     fn sections(&self) -> [Vec<u8>; 8] {
+        let added = self.added.iter().flatten();
         [
             self.components.iter().flat_map(component).collect(),
             self.variables.iter().flat_map(variable).collect(),
@@ -103,7 +113,11 @@ impl Draft {
                 .flat_map(|i| i.rank.to_le_bytes())
                 .collect(),
             self.propositions.iter().flat_map(|p| span(*p)).collect(),
-            self.oracle.iter().flat_map(oracle_state).collect(),
+            self.oracle
+                .iter()
+                .chain(added)
+                .flat_map(oracle_state)
+                .collect(),
             self.code
                 .iter()
                 .flat_map(|word| word.to_le_bytes())

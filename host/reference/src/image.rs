@@ -5,7 +5,8 @@ use crate::lane::{outranked, Lane};
 use crate::plan::{Plan, NO_PORT};
 
 pub const IMAGE_BYTES: usize = 312;
-const ORACLE: usize = 8;
+const ORACLES: usize = 8;
+const NUMBER: usize = 12;
 const MARKS: usize = 16;
 const LOCATIONS: usize = 24;
 const LAST_PORTS: usize = 40;
@@ -18,24 +19,25 @@ pub struct Stored {
     pub marks: u64,
 }
 
-/// Bytes 0 to 15; the oracle state's byte is the lane's.
-fn head(plan: &Plan, oracle: u8) -> [u8; 16] {
+/// Bytes 0 to 7.
+fn head(plan: &Plan) -> [u8; ORACLES] {
     let [c, v, i] = [
         plan.components.len(),
         plan.variables.len(),
         plan.interactions.len(),
     ]
     .map(|count| count as u8);
-    let [n0, n1, n2, n3] = plan.number.to_le_bytes();
-    [
-        b'Y', b'A', b'R', b'D', 1, c, v, i, oracle, 0, 0, 0, n0, n1, n2, n3,
-    ]
+    [b'Y', b'A', b'R', b'D', 1, c, v, i]
 }
 
 pub fn write(plan: &Plan, stored: &Stored) -> [u8; IMAGE_BYTES] {
     let lane = &stored.lane;
     let mut bytes = [0; IMAGE_BYTES];
-    bytes[..16].copy_from_slice(&head(plan, lane.oracle as u8));
+    bytes[..ORACLES].copy_from_slice(&head(plan));
+    for (n, &state) in lane.oracles.iter().enumerate() {
+        bytes[ORACLES + n] = state as u8;
+    }
+    bytes[NUMBER..MARKS].copy_from_slice(&plan.number.to_le_bytes());
     bytes[MARKS..LOCATIONS].copy_from_slice(&stored.marks.to_le_bytes());
     bytes[LAST_PORTS..VALUES].fill(NO_PORT);
     for (c, &location) in lane.locations.iter().enumerate() {
@@ -57,7 +59,7 @@ pub fn check_length(bytes: &[u8]) -> Result<&[u8; IMAGE_BYTES], Refusal> {
 /// The lane and marks that the bytes hold, or the lowest refusal that applies.
 pub fn read(plan: &Plan, bytes: &[u8]) -> Result<Stored, Refusal> {
     let bytes = check_length(bytes)?;
-    if bytes[..16] != head(plan, bytes[ORACLE]) {
+    if bytes[..ORACLES] != head(plan) || bytes[NUMBER..MARKS] != plan.number.to_le_bytes() {
         return Err(Refusal::OtherPlan);
     }
     let stored = Stored {
@@ -94,31 +96,36 @@ fn read_lane(plan: &Plan, bytes: &[u8; IMAGE_BYTES]) -> Lane {
             .chunks_exact(4)
             .map(value)
             .collect(),
-        oracle: bytes[ORACLE].into(),
+        oracles: bytes[ORACLES..][..plan.oracles.len()]
+            .iter()
+            .map(|&state| state.into())
+            .collect(),
     }
 }
 
 /// The rule of refusal 13.
 fn state_lawful(plan: &Plan, bytes: &[u8; IMAGE_BYTES], lane: &Lane) -> bool {
     let components = plan.components.len();
-    let oracle = plan
-        .oracle
-        .get(lane.oracle)
-        .is_some_and(|state| state.verdict != 0);
+    let mut oracles = plan.oracles.iter().zip(&lane.oracles);
+    let judged =
+        oracles.all(|(oracle, &state)| oracle.get(state).is_some_and(|state| state.verdict != 0));
     let used = plan.components.iter().enumerate().all(|(c, component)| {
         lane.locations[c] < component.locations
             && lane.last_ports[c].is_none_or(|port| port < component.ports)
     });
-    let unused = bytes[LOCATIONS + components..LAST_PORTS]
+    let unused = bytes[ORACLES + plan.oracles.len()..NUMBER]
         .iter()
-        .all(|&location| location == 0)
+        .all(|&state| state == 0)
+        && bytes[LOCATIONS + components..LAST_PORTS]
+            .iter()
+            .all(|&location| location == 0)
         && bytes[LAST_PORTS + components..VALUES]
             .iter()
             .all(|&port| port == NO_PORT)
         && bytes[VALUES + 4 * plan.variables.len()..]
             .iter()
             .all(|&byte| byte == 0);
-    oracle && used && unused
+    judged && used && unused
 }
 
 /// Whether each mark is on an interaction that is enabled, not outranked, and ends bad.

@@ -9,7 +9,8 @@ pub struct Lane {
     /// For each component the port of its last transition; none yet at the start.
     pub last_ports: Vec<Option<usize>>,
     pub values: Vec<i32>,
-    pub oracle: usize,
+    /// The state of each oracle of the plan.
+    pub oracles: Vec<usize>,
 }
 
 impl Lane {
@@ -27,15 +28,26 @@ impl Lane {
                 .iter()
                 .map(|variable| variable.start)
                 .collect(),
-            oracle: plan.first,
+            oracles: (0..plan.oracles.len())
+                .map(|n| if n == 0 { plan.first } else { 0 })
+                .collect(),
         };
         lane.read_event(plan);
         lane
     }
 
-    /// Whether the oracle's verdict on the lane is not bad.
+    /// The lowest of the oracles' verdicts on the lane.
+    pub fn verdict(&self, plan: &Plan) -> u8 {
+        let verdicts = plan.oracles.iter().zip(&self.oracles);
+        verdicts
+            .map(|(oracle, &state)| oracle[state].verdict)
+            .min()
+            .expect("a plan has an oracle")
+    }
+
+    /// Whether the verdict on the lane is not bad.
     pub fn good(&self, plan: &Plan) -> bool {
-        plan.oracle[self.oracle].verdict != 0
+        self.verdict(plan) != 0
     }
 
     /// For each interaction whether it is enabled.
@@ -92,11 +104,13 @@ impl Lane {
         })
     }
 
-    /// The oracle reads the letter of the state.
+    /// Every oracle reads the letter of the state.
     fn read_event(&mut self, plan: &Plan) {
         let bit = |(k, &proposition)| usize::from(code::holds(plan, proposition, self)) << k;
         let letter: usize = plan.propositions.iter().enumerate().map(bit).sum();
-        self.oracle = plan.oracle[self.oracle].next[letter];
+        for (oracle, state) in plan.oracles.iter().zip(&mut self.oracles) {
+            *state = oracle[*state].next[letter];
+        }
     }
 }
 

@@ -1,4 +1,4 @@
-//! An independent implementation of the scope paper 01, written to be plainly right.
+//! An independent implementation of the scope paper 01 with the change requests of 02, written to be plainly right.
 #![forbid(unsafe_code)]
 
 pub mod answer;

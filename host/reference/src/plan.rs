@@ -1,4 +1,4 @@
-//! A plan's bytes decoded into records, with the rules of refusals 1 to 9; `code` has those of 10.
+//! A plan's bytes decoded into records, with the rules of refusals 1 to 9 and 20; `code` has those of 10.
 
 use crate::answer::Refusal;
 use crate::code;
@@ -59,7 +59,9 @@ pub struct Plan {
     pub interactions: Vec<Interaction>,
     ranks: Vec<u64>,
     pub propositions: Vec<Span>,
-    pub oracle: Vec<OracleState>,
+    /// The first oracle, then the added ones, each with its states.
+    pub oracles: Vec<Vec<OracleState>>,
+    /// The state in which the first oracle begins; an added one begins in its state 0.
     pub first: usize,
     code: Vec<u16>,
 }
@@ -83,7 +85,7 @@ impl Plan {
                 .chunks_exact(4)
                 .map(|record| span(record, 0))
                 .collect(),
-            oracle: read_oracle(oracle, counts.states)?,
+            oracles: read_oracles(oracle, &counts)?,
             first: counts.first,
             code: code
                 .chunks_exact(2)
@@ -130,7 +132,7 @@ fn require(rule: bool, refusal: Refusal) -> Result<(), Refusal> {
 }
 
 fn check_head(bytes: &[u8]) -> Result<(), Refusal> {
-    let lawful = bytes.len() >= HEAD_BYTES && bytes.starts_with(b"PLAN") && bytes[42..48] == [0; 6];
+    let lawful = bytes.len() >= HEAD_BYTES && bytes.starts_with(b"PLAN") && bytes[46..48] == [0; 2];
     require(lawful, Refusal::Head)
 }
 
@@ -143,6 +145,9 @@ struct Counts {
     states: usize,
     first: usize,
     words: usize,
+    /// Bytes 42 to 45: how many oracles are added, and their states.
+    added: usize,
+    added_states: [usize; 3],
 }
 
 impl Counts {
@@ -156,6 +161,8 @@ impl Counts {
             states: field(bytes, 20),
             first: field(bytes, 22),
             words: field(bytes, 24),
+            added: bytes[42].into(),
+            added_states: [bytes[43], bytes[44], bytes[45]].map(usize::from),
         };
         require(counts.in_range(), Refusal::Count)?;
         Ok(counts)
@@ -170,6 +177,26 @@ impl Counts {
             && (1..=32).contains(&self.states)
             && self.first < self.states
             && self.words <= 4096
+            && self.added_in_range()
+    }
+
+    fn added_in_range(&self) -> bool {
+        let lawful = |(k, &states): (usize, &usize)| match k < self.added {
+            true => (1..=32).contains(&states),
+            false => states == 0,
+        };
+        self.added <= 3 && self.added_states.iter().enumerate().all(lawful)
+    }
+
+    /// The bytes of an oracle state.
+    fn oracle_row(&self) -> usize {
+        1 + (1 << self.propositions)
+    }
+
+    /// The states of each oracle, added ones behind the first.
+    fn oracle_states(&self) -> Vec<usize> {
+        let added = &self.added_states[..self.added];
+        [&[self.states], added].concat()
     }
 
     fn section_sizes(&self) -> [usize; 8] {
@@ -180,7 +207,7 @@ impl Counts {
             24 * self.interactions,
             8 * self.interactions,
             4 * self.propositions,
-            self.states * (1 + (1 << self.propositions)),
+            self.oracle_row() * self.oracle_states().iter().sum::<usize>(),
             2 * self.words,
         ]
     }
@@ -303,25 +330,41 @@ fn read_ranks(section: &[u8]) -> Result<Vec<u64>, Refusal> {
     Ok(ranks)
 }
 
-fn read_oracle(section: &[u8], states: usize) -> Result<Vec<OracleState>, Refusal> {
+/// The first oracle and the added ones; what breaks the rule of a table is 9 in the first and 20 in the others.
+fn read_oracles(section: &[u8], counts: &Counts) -> Result<Vec<Vec<OracleState>>, Refusal> {
+    let mut rest = section;
+    let mut oracles = Vec::new();
+    for states in counts.oracle_states() {
+        let (table, behind) = rest.split_at(states * counts.oracle_row());
+        let refusal = match oracles.is_empty() {
+            true => Refusal::Oracle,
+            false => Refusal::AddedOracle,
+        };
+        let oracle = read_oracle(table, counts.oracle_row());
+        require(oracle_lawful(&oracle), refusal)?;
+        oracles.push(oracle);
+        rest = behind;
+    }
+    Ok(oracles)
+}
+
+fn read_oracle(table: &[u8], row: usize) -> Vec<OracleState> {
     let read = |record: &[u8]| OracleState {
         verdict: record[0],
         next: record[1..].iter().map(|&next| next.into()).collect(),
     };
-    let oracle: Vec<OracleState> = section
-        .chunks_exact(section.len() / states)
-        .map(read)
-        .collect();
-    for state in &oracle {
-        require(matches!(state.verdict, 0 | 2 | 3), Refusal::Oracle)?;
-        for &next in &state.next {
-            let follower = oracle.get(next).ok_or(Refusal::Oracle)?;
-            let for_good = matches!(state.verdict, 0 | 3);
-            require(
-                !for_good || follower.verdict == state.verdict,
-                Refusal::Oracle,
-            )?;
-        }
-    }
-    Ok(oracle)
+    table.chunks_exact(row).map(read).collect()
+}
+
+/// The rule of 9, and for an added oracle of 20.
+fn oracle_lawful(oracle: &[OracleState]) -> bool {
+    oracle.iter().all(|state| {
+        let for_good = matches!(state.verdict, 0 | 3);
+        let lawful_next = |&next: &usize| {
+            oracle
+                .get(next)
+                .is_some_and(|follower| !for_good || follower.verdict == state.verdict)
+        };
+        matches!(state.verdict, 0 | 2 | 3) && state.next.iter().all(lawful_next)
+    })
 }

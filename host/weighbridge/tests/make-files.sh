@@ -1,6 +1,6 @@
 #!/usr/bin/env bash
-# make-files.sh SAMPLE: writes the plans and images that the scripts use into the current directory.
-# Each damaged file is the sample plan, or its starting image, with a few bytes replaced.
+# make-files.sh PLANS: writes the plans and images that the scripts use into the current directory.
+# Each damaged file is the sample plan, or its starting image, with a few bytes replaced; for added oracles those of the wet bales.
 set -eu
 
 # patched FROM TO OFFSET BYTES...: a copy with bytes replaced from an offset; further offsets with their bytes follow after commas.
@@ -18,18 +18,22 @@ patched() {
 }
 plan() { patched sample.plan "$@"; }
 image() { patched start.image "$@"; }
+wet_plan() { patched wet-bales.plan "$@"; }
+wet_image() { patched wet-start.image "$@"; }
 zeros() { head -c "$1" /dev/zero; }
 
-cp "$1" sample.plan
+cp "$1"/{sample,wet-bales,maximal-oracles}.plan .
 
-# The starting image of the sample lane, by the layout of the image.
+# The starting images of the sample lane and of the wet bales' lane, by the layout of the image.
 { printf 'YARD\x01\x01\x01\x03'; zeros 4; printf '\x07'; zeros 27; printf '\xff%.0s' {1..16}; zeros 256; } > start.image
+{ printf 'YARD\x01\x02\x05\x06'; zeros 4; printf '\x29'; zeros 27; printf '\xff%.0s' {1..16}; zeros 256; } > wet-start.image
 
 # 1: the head
 : > empty.plan
 head -c 47 sample.plan > 1-short.plan
 plan 1-letters.plan 3 4d
 plan 1-zeros.plan 47 01
+plan 1-zeros-46.plan 46 01
 # 2: counts and first oracle state
 plan 2-components-0.plan 10 00
 plan 2-components-17.plan 10 11
@@ -41,6 +45,12 @@ plan 2-propositions-5.plan 18 05
 plan 2-states-33.plan 20 21
 plan 2-first-state.plan 22 02
 plan 2-words-4097.plan 24 01 10
+plan 2-unused-states.plan 43 01
+wet_plan 2-added-4.plan 42 04
+wet_plan 2-added-none.plan 42 00
+wet_plan 2-added-states-0.plan 43 00
+wet_plan 2-added-states-33.plan 43 21
+wet_plan 2-added-unused.plan 45 01
 # 3: offsets and lengths
 plan 3-first-offset.plan 26 31
 plan 3-last-offset.plan 40 d4
@@ -48,6 +58,8 @@ plan 3-stated-length.plan 8 eb
 head -c 233 sample.plan > 3-byte-less.plan
 { cat sample.plan; zeros 1; } > 3-byte-more.plan
 { cat sample.plan; zeros 100000; } > 3-far-longer.plan
+{ cat maximal-oracles.plan; zeros 1; } > 3-past-the-longest.plan
+wet_plan 3-added-states.plan 43 02
 # 4: component
 plan 4-no-location.plan 48 00
 plan 4-locations-17.plan 48 11
@@ -77,6 +89,12 @@ plan 9-verdict-4.plan 208 04 00 00
 plan 9-next-state.plan 210 02
 plan 9-bad-left.plan 212 00
 plan 9-good-left.plan 208 03
+# 20: an added oracle, whose three states stand from 414 on
+wet_plan 20-verdict-1.plan 423 01
+wet_plan 20-verdict-4.plan 432 04
+wet_plan 20-next-state.plan 415 03
+wet_plan 20-bad-left.plan 440 01
+wet_plan 20-good-left.plan 414 03
 # 10: code; the guard of one word is word 10, behind the sample's code, for transition 0
 { cat sample.plan; printf '\x00\x60'; } > longer.plan
 patched longer.plan 10-guard.plan 8 ec , 24 0b , 64 0a 00 01 00
@@ -87,9 +105,11 @@ plan 10-variable.plan 218 01
 plan 10-location.plan 224 03
 plan 10-operator.plan 230 08
 plan 10-one-value.plan 222 00 60
-# Two faults: the lower number answers.
+# Two faults: the one that is tested first answers, and 20 is tested before 10.
 plan 4-and-10.plan 51 01 , 206 00
 plan 8-and-9.plan 188 02 , 208 01
+wet_plan 9-and-20.plan 396 01 , 414 01
+wet_plan 20-and-10.plan 414 01 , 446 70
 
 # Lawful variants of the sample.
 plan bad-start.plan 49 02
@@ -103,6 +123,9 @@ patched shorter.plan no-transitions.plan 8 ba , 14 00 , 32 3c 00 84 00 9c 00 a0 
 # The tare starts at 2147483647, and move 1 adds 1 to it.
 { cat sample.plan; printf '\x00\x20\x01\x00\x00\x60\x00\x30'; } > longer.plan
 patched longer.plan wrap.plan 8 f2 , 24 0e , 56 ff ff ff 7f , 80 0a 00 04
+# The wet bales' lane under the common oracle alone.
+{ head -c 414 wet-bales.plan; tail -c +442 wet-bales.plan; } > shorter.plan
+patched shorter.plan common.plan 8 0a 02 , 40 9e 01 00 00
 
 # 64 moves, each of which ends badly; no variables, no propositions, no code.
 {
@@ -137,10 +160,10 @@ image 12-form.image 4 02
 image 12-components.image 5 02
 image 12-variables.image 6 00
 image 12-interactions.image 7 04
-image 12-zero.image 11 01
 image 12-plan-number.image 15 01
 image 13-oracle-bad.image 8 01
 image 13-oracle-state.image 8 02
+image 13-unused-oracle.image 11 01
 image 13-location.image 24 03
 image 13-last-port.image 40 03
 image 13-unused-location.image 39 01
@@ -152,5 +175,8 @@ image 14-past-interactions.image 16 08
 image 14-last-bit.image 23 80
 image 14-one-of-two.image 16 03
 image 13-and-14.image 24 03 , 16 02
+wet_image 13-added-state.image 9 03
+wet_image 13-added-bad.image 9 02
+wet_image 13-added-unused.image 10 01
 image marked.image 16 01
 image tared.image 24 01 , 40 00 , 56 28 23

@@ -11,7 +11,7 @@ fail() { echo "FAILED: $*"; failed=$((failed + 1)); }
 
 cd "$work"
 mkdir folder
-bash "$tests/make-files.sh" "$tests/../../../plans/sample.plan"
+bash "$tests/make-files.sh" "$tests/../../../plans"
 
 scripts=0
 for script in "$tests"/*.in; do
@@ -31,7 +31,7 @@ for hex in "$tests"/*.hex; do
   images=$((images + 1))
 done
 
-for number in {1..19}; do
+for number in {1..20}; do
   grep -q "^refused $number: " ./*.got || fail "no script is refused with $number"
 done
 

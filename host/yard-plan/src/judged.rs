@@ -19,8 +19,8 @@ pub struct Judged {
     pub components: Vec<usize>,
     /// For each interaction bit c for component c taking part; where none does, those whose variables its code names.
     pub parts: Vec<u16>,
-    /// For each oracle state its verdict; where it is none, the one that fits the states around best.
-    pub verdicts: Vec<u8>,
+    /// For each oracle the verdicts of its states; where one is none, the one that fits the states around best.
+    pub verdicts: Vec<Vec<u8>>,
 }
 
 impl Judged {
@@ -41,9 +41,7 @@ impl Judged {
                 .collect(),
             components: Vec::new(),
             parts: Vec::new(),
-            verdicts: (0..tables.oracle.len())
-                .map(|n| verdict(&tables, n))
-                .collect(),
+            verdicts: tables.oracles.iter().map(|o| verdicts(o)).collect(),
             tables,
         };
         judged.components = judged
@@ -155,20 +153,24 @@ pub fn is_final(verdict: u8) -> bool {
     matches!(verdict, 0 | 3)
 }
 
-fn verdict(tables: &Tables, n: usize) -> u8 {
-    let stated = tables.oracle[n].verdict;
+fn verdicts(oracle: &[State]) -> Vec<u8> {
+    (0..oracle.len()).map(|n| verdict(oracle, n)).collect()
+}
+
+fn verdict(oracle: &[State], n: usize) -> u8 {
+    let stated = oracle[n].verdict;
     if is_verdict(stated) {
         return stated;
     }
     let fits = [2, 0, 3].into_iter();
-    fits.min_by_key(|&verdict| conflicts(tables, n, verdict))
+    fits.min_by_key(|&verdict| conflicts(oracle, n, verdict))
         .unwrap_or(2)
 }
 
 /// How many steps to and from other states would break a rule if this were the state's verdict.
-fn conflicts(tables: &Tables, n: usize, verdict: u8) -> usize {
+fn conflicts(oracle: &[State], n: usize, verdict: u8) -> usize {
     let differs = |other: u8| is_verdict(other) && other != verdict;
-    let others = || tables.oracle.iter().enumerate().filter(|&(m, _)| m != n);
+    let others = || oracle.iter().enumerate().filter(|&(m, _)| m != n);
     let leads = |state: &State, to: usize| {
         state
             .next
@@ -181,6 +183,6 @@ fn conflicts(tables: &Tables, n: usize, verdict: u8) -> usize {
         .map(|(_, state)| leads(state, n));
     let after = others()
         .filter(|(_, state)| is_final(verdict) && differs(state.verdict))
-        .map(|(m, _)| leads(&tables.oracle[n], m));
+        .map(|(m, _)| leads(&oracle[n], m));
     before.sum::<usize>() + after.sum::<usize>()
 }

@@ -2,15 +2,17 @@
 
 use std::ops::Range;
 
+use crate::added::{self, Added, Shares};
+
 pub const HEAD_BYTES: usize = 48;
 /// The longest lawful plan.
-pub const MOST_BYTES: usize = 14_496;
+pub const MOST_BYTES: usize = 16_128;
 pub const LETTERS: &[u8; 4] = b"PLAN";
 pub const NUMBER: usize = 4;
 pub const LENGTH: usize = 8;
 pub const FIRST: usize = 22;
 pub const OFFSETS: usize = 26;
-pub const ZEROS: Range<usize> = 42..48;
+pub const ZEROS: Range<usize> = 46..48;
 pub const MOST_STATES: usize = 32;
 
 /// A count of the header: its name, its place and its range.
@@ -69,74 +71,82 @@ pub fn number(bytes: &[u8]) -> Option<u32> {
     Some(u32::from_le_bytes(four.try_into().ok()?))
 }
 
-/// The seven counts, in the order of `COUNTS`.
+/// The seven counts of 16 bits, in the order of `COUNTS`, and the added oracles.
 #[derive(Clone, Copy, Debug, PartialEq, Eq)]
-pub struct Counts(pub [usize; 7]);
+pub struct Counts {
+    pub fields: [usize; 7],
+    pub added: Added,
+}
 
 impl Counts {
     /// The header's counts, whatever they are.
     pub fn stated(bytes: &[u8]) -> Option<Counts> {
-        let mut counts = [0; 7];
-        for (count, rule) in counts.iter_mut().zip(&COUNTS) {
+        let mut fields = [0; 7];
+        for (count, rule) in fields.iter_mut().zip(&COUNTS) {
             *count = field(bytes, rule.at)?;
         }
-        Some(Counts(counts))
+        let added = Added::stated(bytes);
+        Some(Counts { fields, added })
     }
 
     /// The counts for which the sections have room as the header lays them out: none unless every offset, the stated length and the file's
     /// own agree with counts in their ranges. Where the stated counts are in their ranges too, the first oracle state must agree as well.
     pub fn laid_out(bytes: &[u8]) -> Option<Counts> {
-        let offset = |n: usize| field(bytes, OFFSETS + 2 * n);
-        let size = |n: usize| {
-            let end = if n == 7 {
-                Some(bytes.len())
-            } else {
-                offset(n + 1)
-            };
-            end?.checked_sub(offset(n)?)
+        let offset = |n: usize| match n {
+            8 => Some(bytes.len()),
+            _ => field(bytes, OFFSETS + 2 * n),
         };
+        let size = |n: usize| offset(n + 1)?.checked_sub(offset(n)?);
         let propositions = size(5)? / 4;
-        let letters = 1_usize.checked_shl(propositions.try_into().ok()?)?;
-        let counts = Counts([
-            size(0)? / 4,
-            size(1)? / 8,
-            size(2)? / 12,
-            size(3)? / 24,
-            propositions,
-            size(6)? / (1 + letters),
-            size(7)? / 2,
-        ]);
-        let first = !Counts::stated(bytes)?.in_range() || field(bytes, FIRST)? < counts.states();
-        (counts.in_range() && first && Layout::new(counts).is_stated(bytes)).then_some(counts)
+        let shares = laid_out_shares(bytes, offset(6)?..offset(7)?, propositions)?;
+        let counts = Counts {
+            fields: [
+                size(0)? / 4,
+                size(1)? / 8,
+                size(2)? / 12,
+                size(3)? / 24,
+                propositions,
+                shares.first,
+                size(7)? / 2,
+            ],
+            added: shares.added,
+        };
+        (counts.in_range() && Layout::new(counts).is_stated(bytes)).then_some(counts)
+    }
+
+    /// The states of each oracle, the first one's and those added.
+    pub fn shares(&self) -> Shares {
+        Shares {
+            first: self.states(),
+            added: self.added,
+        }
     }
 
     pub fn in_range(&self) -> bool {
-        self.0
-            .iter()
-            .zip(&COUNTS)
-            .all(|(&count, rule)| rule.allows(count))
+        let mut fields = self.fields.iter().zip(&COUNTS);
+        fields.all(|(&count, rule)| rule.allows(count)) && self.added.lawful()
     }
 
     pub fn components(&self) -> usize {
-        self.0[0]
+        self.fields[0]
     }
 
     pub fn interactions(&self) -> usize {
-        self.0[3]
+        self.fields[3]
     }
 
     pub fn states(&self) -> usize {
-        self.0[5]
+        self.fields[5]
     }
 
     /// How many letters there are, for at most four propositions.
     pub fn letters(&self) -> usize {
-        1 << self.0[4].min(4)
+        1 << self.fields[4].min(4)
     }
 
     fn sizes(&self) -> [usize; 8] {
         let [components, variables, transitions, interactions, propositions, states, words] =
-            self.0;
+            self.fields;
         [
             4 * components,
             8 * variables,
@@ -144,10 +154,22 @@ impl Counts {
             24 * interactions,
             8 * interactions,
             4 * propositions,
-            states * (1 + self.letters()),
+            (states + self.added.rows()) * (1 + self.letters()),
             2 * words,
         ]
     }
+}
+
+/// The oracles for which their section has room.
+fn laid_out_shares(bytes: &[u8], section: Range<usize>, propositions: usize) -> Option<Shares> {
+    let stated = Counts::stated(bytes)?;
+    let letters = 1_usize.checked_shl(propositions.try_into().ok()?)?;
+    let rows = bytes.get(section)?.chunks_exact(1 + letters);
+    let least = match stated.in_range() {
+        true => field(bytes, FIRST)? + 1,
+        false => 1,
+    };
+    added::shared_out(stated.shares(), &Vec::from_iter(rows), least)
 }
 
 /// Where each section begins when they are laid end to end.

@@ -2,6 +2,7 @@
 //! The numbers are the library's own answers; the analysis here explains them.
 #![forbid(unsafe_code)]
 
+pub mod added;
 pub mod command;
 pub mod expression;
 pub mod faults;

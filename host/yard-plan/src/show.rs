@@ -1,5 +1,6 @@
 //! A plan's tables in words.
 
+use crate::added::Added;
 use crate::expression;
 use crate::faults;
 use crate::faults::code::{Examiner, Role, Site};
@@ -7,7 +8,7 @@ use crate::judged::{Judged, NO_PORT};
 use crate::layout::{field, number, COUNTS, FIRST, LENGTH, LETTERS, OFFSETS};
 use crate::report;
 use crate::start;
-use crate::tables::{Interaction, Tables};
+use crate::tables::{Interaction, State, Tables};
 use crate::text::{bits, counted, list, verdict};
 
 /// The plan's header and, unless 1, 2 or 3 applies, its tables.
@@ -39,14 +40,23 @@ fn header(bytes: &[u8]) -> String {
         .map(|rule| format!("{} {}", rule.name, at(rule.at)));
     let offsets = (0..8).map(|n| at(OFFSETS + 2 * n));
     format!(
-        "header\n  letters \"{}\", plan number {number}\n  length {} stated, {} in the file\n  {}\n  first oracle state {}\n  sections at {}\n",
+        "header\n  letters \"{}\", plan number {number}\n  length {} stated, {} in the file\n  {}\n  first oracle state {}\n{}  sections at {}\n",
         letters.escape_ascii(),
         at(LENGTH),
         bytes.len(),
         list(counts),
         at(FIRST),
+        added(&Added::stated(bytes)),
         list(offsets)
     )
+}
+
+/// A line for the added oracles, where bytes 42 to 45 say anything.
+fn added(added: &Added) -> String {
+    match (added.number, added.states) {
+        (0, [0, 0, 0]) => String::new(),
+        (number, states) => format!("  added oracles {number}, their states {}\n", list(states)),
+    }
 }
 
 fn tables(judged: &Judged) -> String {
@@ -60,6 +70,7 @@ fn tables(judged: &Judged) -> String {
         section("ranks", ranks(tables)),
         section("propositions", propositions(judged, &examiner)),
         section("oracle states", oracle(tables)),
+        added_oracles(tables),
     ]
     .concat()
 }
@@ -172,16 +183,28 @@ fn oracle(tables: &Tables) -> Vec<String> {
     let letters = tables.layout.counts.letters();
     let letters = (0..letters).map(|letter| format!("{letter} {}", letter_name(letter)));
     let mut lines = vec![format!("letters, by what is true: {}", list(letters))];
-    for (s, state) in tables.oracle.iter().enumerate() {
+    lines.extend(states(&tables.oracles[0]));
+    lines
+}
+
+/// A section for each added oracle.
+fn added_oracles(tables: &Tables) -> String {
+    let added = tables.oracles.iter().enumerate().skip(1);
+    let sections = added.map(|(n, oracle)| {
+        let name = format!("states of added oracle {n}");
+        section(&name, states(oracle))
+    });
+    sections.collect()
+}
+
+fn states(oracle: &[State]) -> Vec<String> {
+    let line = |(s, state): (usize, &State)| {
         let next = state.next.iter().enumerate();
         let next = next.map(|(letter, next)| format!("{letter} -> {next}"));
-        lines.push(format!(
-            "{s}: {}; next by letter: {}",
-            verdict(state.verdict),
-            list(next)
-        ));
-    }
-    lines
+        let verdict = verdict(state.verdict);
+        format!("{s}: {verdict}; next by letter: {}", list(next))
+    };
+    oracle.iter().enumerate().map(line).collect()
 }
 
 /// The propositions that are true in a letter.

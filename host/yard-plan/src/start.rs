@@ -7,6 +7,7 @@ use reference::lane::Lane;
 use reference::plan::Plan;
 
 use crate::report::{number, says, ACCEPTED, DIFFERENT};
+use crate::text::oracle_state;
 
 const BAD_START: u32 = 15;
 
@@ -43,19 +44,48 @@ fn explained(number: u32, cause: Option<(String, String)>) -> (String, u8) {
 fn cause(plan: &[u8]) -> Option<(String, String)> {
     let plan = Plan::read(plan).ok()?;
     let lane = Lane::start(&plan);
-    if lane.good(&plan) {
+    let bad = (0..plan.oracles.len()).filter(|&n| is_bad(&plan, n, lane.oracles[n]));
+    let bad = Vec::from_iter(bad);
+    if bad.is_empty() {
         return None;
     }
-    let (first, state, letter) = (plan.first, lane.oracle, letter(&plan, &lane));
-    let why = format!(
-        "the starting state's letter {letter} leads from oracle state {first} to state {state}, which is bad"
-    );
-    let mut next = plan.oracle[first].next.iter();
-    let cure = match next.all(|&state| plan.oracle[state].verdict == 0) {
-        true => format!("another first oracle state, or another oracle: every letter leads from state {first} to a bad one"),
-        false => "other starting locations or values, or another oracle".to_string(),
+    let ways = bad.iter().map(|&n| {
+        let from = oracle_state(n, first(&plan, n));
+        let to = lane.oracles[n];
+        format!("from {from} to state {to}, which is bad")
+    });
+    let (letter, ways) = (letter(&plan, &lane), Vec::from_iter(ways).join(", and "));
+    let why = format!("the starting state's letter {letter} leads {ways}");
+    let hopeless = bad.iter().filter_map(|&n| hopeless(&plan, n));
+    let cure = match Vec::from_iter(hopeless) {
+        cures if cures.is_empty() => {
+            "other starting locations or values, or another oracle".to_string()
+        }
+        cures => cures.join("; "),
     };
     Some((why, cure))
+}
+
+fn is_bad(plan: &Plan, oracle: usize, state: usize) -> bool {
+    plan.oracles[oracle][state].verdict == 0
+}
+
+/// The state in which an oracle begins.
+fn first(plan: &Plan, oracle: usize) -> usize {
+    match oracle {
+        0 => plan.first,
+        _ => 0,
+    }
+}
+
+/// The cure where every letter leads an oracle to a bad state.
+fn hopeless(plan: &Plan, oracle: usize) -> Option<String> {
+    let first = first(plan, oracle);
+    let mut next = plan.oracles[oracle][first].next.iter();
+    next.all(|&state| is_bad(plan, oracle, state)).then(|| match oracle {
+        0 => format!("another first oracle state, or another oracle: every letter leads from state {first} to a bad one"),
+        _ => format!("another table for added oracle {oracle}: every letter leads from its state {first} to a bad one"),
+    })
 }
 
 /// The sum of 2^k over the propositions k that hold.

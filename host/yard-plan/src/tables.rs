@@ -80,7 +80,8 @@ pub struct Tables {
     pub interactions: Vec<Interaction>,
     pub ranks: Vec<RankRow>,
     pub propositions: Vec<Span>,
-    pub oracle: Vec<State>,
+    /// The first oracle's states, then those of each added one.
+    pub oracles: Vec<Vec<State>>,
     pub code: Vec<u16>,
 }
 
@@ -97,7 +98,7 @@ impl Tables {
             interactions: records(bytes, &layout, 3, 24, interaction)?,
             ranks: records(bytes, &layout, 4, 8, rank_row)?,
             propositions: records(bytes, &layout, 5, 4, |at, record| span(at, record, 0))?,
-            oracle: records(bytes, &layout, 6, state_bytes, state)?,
+            oracles: oracles(&layout, records(bytes, &layout, 6, state_bytes, state)?),
             code: records(bytes, &layout, 7, 2, |_, word| pair(word, 0))?,
         })
     }
@@ -126,6 +127,17 @@ fn records<T>(
             .map(|(n, record)| read(from + n * size, record))
             .collect(),
     )
+}
+
+/// The rows of the section, oracle by oracle.
+fn oracles(layout: &Layout, mut rows: Vec<State>) -> Vec<Vec<State>> {
+    let mut oracles = Vec::new();
+    for states in layout.counts.shares().counts() {
+        let behind = rows.split_off(states);
+        oracles.push(rows);
+        rows = behind;
+    }
+    oracles
 }
 
 fn pair(record: &[u8], at: usize) -> u16 {

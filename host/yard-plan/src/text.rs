@@ -75,6 +75,22 @@ pub fn verdict(verdict: u8) -> String {
     format!("verdict {verdict}, {words}")
 }
 
+/// "oracle state 3", "state 3 of added oracle 1".
+pub fn oracle_state(oracle: usize, state: impl Display) -> String {
+    match oracle {
+        0 => format!("oracle state {state}"),
+        _ => format!("state {state} of added oracle {oracle}"),
+    }
+}
+
+/// "the plan has 2 oracle states (0 to 1)", "added oracle 1 has 2 states (0 to 1)".
+pub fn oracle_has(oracle: usize, states: usize) -> String {
+    match oracle {
+        0 => format!("the plan has {}", counted(states, "oracle state")),
+        _ => format!("added oracle {oracle} has {}", counted(states, "state")),
+    }
+}
+
 /// A last port; 255 is none yet.
 pub fn last_port(port: u8) -> String {
     match port {
@@ -93,7 +109,7 @@ mod tests {
         assert_eq!(counted(1, "port"), "1 port (0)");
         assert_eq!(counted(3, "port"), "3 ports (0 to 2)");
         assert_eq!(thousands(999), "999");
-        assert_eq!(thousands(14_496), "14,496");
+        assert_eq!(thousands(16_128), "16,128");
         assert_eq!(thousands(1_048_577), "1,048,577");
     }
 

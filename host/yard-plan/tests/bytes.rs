@@ -54,10 +54,11 @@ fn number(plan: &[u8]) -> u32 {
     report::number(yard::check(plan))
 }
 
-fn change_plan(name: &str, changes: impl Fn(u8) -> Vec<u8>) -> Tally {
+/// The plan with each byte of its first ones changed.
+fn change_plan(name: &str, length: usize, changes: impl Fn(u8) -> Vec<u8>) -> Tally {
     let mut tally = Tally::default();
     let mut plan = plan(name);
-    for at in 0..plan.len() {
+    for at in 0..length.min(plan.len()) {
         let kept = plan[at];
         for byte in changes(kept) {
             plan[at] = byte;
@@ -71,26 +72,41 @@ fn change_plan(name: &str, changes: impl Fn(u8) -> Vec<u8>) -> Tally {
 
 #[test]
 fn every_byte_of_the_sample_with_every_value() {
-    let tally = change_plan("sample.plan", |_| (0..=255).collect());
+    let tally = change_plan("sample.plan", usize::MAX, |_| (0..=255).collect());
     assert_eq!(tally.changes, 234 * 256);
     assert!(tally.single > 40_000 && tally.there > tally.single * 9 / 10);
 }
 
 #[test]
+fn every_byte_of_a_header_with_an_added_oracle() {
+    let tally = change_plan("wet-bales.plan", 48, |_| (0..=255).collect());
+    assert_eq!(tally.changes, 48 * 256);
+    assert!(tally.single > 9_000 && tally.there > tally.single * 9 / 10);
+}
+
+#[test]
 fn every_bit_of_larger_plans() {
-    for name in ["tasks.plan", "philosophers-3.plan", "robots-2.plan"] {
-        let tally = change_plan(name, |byte| (0..8).map(|bit| byte ^ 1 << bit).collect());
+    for name in [
+        "tasks.plan",
+        "philosophers-3.plan",
+        "robots-2.plan",
+        "wet-bales.plan",
+    ] {
+        let bits = |byte| (0..8).map(|bit| byte ^ 1 << bit).collect();
+        let tally = change_plan(name, usize::MAX, bits);
         assert!(tally.single > tally.changes / 4);
     }
 }
 
-#[test]
-fn every_byte_of_an_image_with_every_value() {
-    let plan = plan("sample.plan");
+/// A lane after some tries, and with each byte changed.
+fn change_image(name: &str, tries: &[u32]) -> Tally {
+    let plan = plan(name);
     let number = |image: &[u8]| report::number(yard::offered(&plan, image));
     let mut bytes = vec![0; yard::IMAGE_BYTES];
     yard::start(&plan, &mut bytes);
-    yard::attempt(&plan, &mut bytes, 0);
+    for &tried in tries {
+        yard::attempt(&plan, &mut bytes, tried);
+    }
     let mut tally = Tally::default();
     for at in 0..bytes.len() {
         let kept = bytes[at];
@@ -100,7 +116,16 @@ fn every_byte_of_an_image_with_every_value() {
         }
         bytes[at] = kept;
     }
-    println!("image: {tally:?}");
-    assert_eq!(tally.changes, 312 * 256);
-    assert!(tally.single > 70_000 && tally.there > tally.single * 9 / 10);
+    println!("image of {name}: {tally:?}");
+    tally
+}
+
+#[test]
+fn every_byte_of_an_image_with_every_value() {
+    // The last try is cancelled in each.
+    for (name, tries) in [("sample.plan", &[0][..]), ("wet-bales.plan", &[3, 1, 0])] {
+        let tally = change_image(name, tries);
+        assert_eq!(tally.changes, 312 * 256);
+        assert!(tally.single > 70_000 && tally.there > tally.single * 9 / 10);
+    }
 }

@@ -2,7 +2,7 @@
 
 use compare::rng::Rng;
 use compare::{damage, generate, images};
-use yard_plan::faults::{self, Fault};
+use yard_plan::faults::{self, Fault, ORDER};
 use yard_plan::mend::Mend;
 use yard_plan::{command, image, report, show};
 
@@ -13,19 +13,54 @@ fn library(plan: &[u8]) -> u32 {
     report::number(yard::check(plan))
 }
 
+/// Counts by the plan's refusals, in the order in which they are tested.
+type Row = [usize; ORDER.len()];
+
 #[derive(Debug, Default, PartialEq, Eq)]
 struct Tally {
     accepted: usize,
-    refused: [usize; 11],
-    single: [usize; 11],
-    cured: [usize; 11],
-    no_mend: [usize; 11],
+    refused: Row,
+    single: Row,
+    cured: Row,
+    no_mend: Row,
+}
+
+/// Causes that added oracles bring, each by its number and what its text has; the first fault of some plan, or image, has each.
+const PLAN_CAUSES: [(u32, &str); 10] = [
+    (1, "bytes 46 and 47 are "),
+    (2, "but a plan has 0 to 3"),
+    (2, "but their state counts are "),
+    (2, "but an oracle has 1 to 32"),
+    (2, "but the plan adds "),
+    (3, "added oracle"),
+    (20, ", but there are 0 bad"),
+    (20, ", but added oracle "),
+    (20, ", but this state has verdict 0"),
+    (20, ", but this state has verdict 3"),
+];
+const IMAGE_CAUSES: [(u32, &str); 3] = [
+    (13, ", but added oracle "),
+    (13, " of added oracle 1 has verdict 0"),
+    (13, "the state of added oracle "),
+];
+
+/// Takes a fault's cause out of those not met yet.
+fn meet(missing: &mut Vec<(u32, &str)>, fault: Option<&Fault>) {
+    let is = |fault: &Fault, (number, text)| fault.number == number && fault.text.contains(text);
+    missing.retain(|&cause| !fault.is_some_and(|fault| is(fault, cause)));
+}
+
+/// The place of a plan's refusal in the order.
+fn place(number: u32) -> usize {
+    let found = ORDER.iter().position(|&other| other == number);
+    found.expect("a plan's refusal")
 }
 
 #[test]
 fn the_first_number_is_the_librarys_and_single_faults_are_cured() {
     let mut rng = Rng::new(12);
     let mut tally = Tally::default();
+    let mut missing = PLAN_CAUSES.to_vec();
     for round in 0..PLANS {
         let lawful = generate::plan(&mut rng).draft;
         let plan = damage::plan(&mut rng, &lawful);
@@ -33,28 +68,30 @@ fn the_first_number_is_the_librarys_and_single_faults_are_cured() {
         let faults = faults::of_plan(&plan).faults;
         let first = faults.first().map_or(0, |fault| fault.number);
         assert_eq!(first, number, "round {round}: {:?}", faults.first());
-        assert!(faults.windows(2).all(|w| w[0].number <= w[1].number));
+        assert!(faults.iter().map(|fault| place(fault.number)).is_sorted());
+        meet(&mut missing, faults.first());
         match number {
             0 => tally.accepted += 1,
-            _ => tally.refused[number as usize] += 1,
+            _ => tally.refused[place(number)] += 1,
         }
         if let [fault] = &faults[..] {
             mend(&mut tally, round, &plan, fault);
         }
     }
     report(&tally);
-    let mended: Vec<usize> = (0..11).map(|n| tally.cured[n] + tally.no_mend[n]).collect();
-    assert_eq!(mended, tally.single);
-    assert!(tally.refused[1..].iter().all(|&count| count > 0));
-    assert!(tally.cured[1..].iter().all(|&count| count > 0));
+    let mended = (0..ORDER.len()).map(|n| tally.cured[n] + tally.no_mend[n]);
+    assert_eq!(Vec::from_iter(mended), tally.single);
+    assert!(tally.refused.iter().all(|&count| count > 0));
+    assert!(tally.cured.iter().all(|&count| count > 0));
+    assert_eq!(missing, []);
 }
 
 /// Applies a single fault's mend, after which the plan is accepted; where there is none, says what holds instead.
 fn mend(tally: &mut Tally, round: usize, plan: &[u8], fault: &Fault) {
-    let number = fault.number as usize;
-    tally.single[number] += 1;
+    let at = place(fault.number);
+    tally.single[at] += 1;
     let Some(mend) = &fault.mend else {
-        tally.no_mend[number] += 1;
+        tally.no_mend[at] += 1;
         return without_mend(round, plan, fault);
     };
     let mut mended = plan.to_vec();
@@ -65,7 +102,7 @@ fn mend(tally: &mut Tally, round: usize, plan: &[u8], fault: &Fault) {
         0,
         "round {round}: {fault:?}, then {after:?}"
     );
-    tally.cured[number] += 1;
+    tally.cured[at] += 1;
 }
 
 /// Three kinds of plans cannot be cured by writing bytes: fewer bytes than a header, sections laid out for a count outside its range, and a
@@ -84,11 +121,12 @@ fn without_mend(round: usize, plan: &[u8], fault: &Fault) {
     }
 }
 
-/// Whether the plan is refused whatever is written into a field.
+/// Whether the plan is refused whatever is written into a field: one of 16 bits, or of a byte from 42 on.
 fn no_count_cures(plan: &[u8], at: usize) -> bool {
     let mut changed = plan.to_vec();
-    (0..=u16::MAX).all(|count| {
-        changed[at..at + 2].copy_from_slice(&count.to_le_bytes());
+    let size = if at < 42 { 2 } else { 1 };
+    (0..=u16::MAX >> (16 - 8 * size)).all(|count| {
+        changed[at..at + size].copy_from_slice(&count.to_le_bytes()[..size]);
         library(&changed) != 0
     })
 }
@@ -100,13 +138,13 @@ fn given_length(fault: &Fault) -> usize {
 }
 
 fn report(tally: &Tally) {
-    let sum = |row: &[usize; 11]| row.iter().sum::<usize>();
+    let sum = |row: &Row| row.iter().sum::<usize>();
     println!("{PLANS} plans, {} accepted", tally.accepted);
     println!("number   refused  single fault  mended and accepted  no mend");
-    for n in 1..11 {
+    for (n, number) in ORDER.iter().enumerate() {
         let (refused, single) = (tally.refused[n], tally.single[n]);
         let (cured, none) = (tally.cured[n], tally.no_mend[n]);
-        println!("{n:6} {refused:9} {single:13} {cured:20} {none:8}");
+        println!("{number:6} {refused:9} {single:13} {cured:20} {none:8}");
     }
     let (refused, single) = (sum(&tally.refused), sum(&tally.single));
     let (cured, none) = (sum(&tally.cured), sum(&tally.no_mend));
@@ -138,6 +176,7 @@ fn the_first_number_of_an_image_is_the_librarys_and_single_faults_are_cured() {
     let mut met = [0; 15];
     let (mut single, mut cured) = (0, 0);
     let mut other = vec![0; yard::IMAGE_BYTES];
+    let mut missing = IMAGE_CAUSES.to_vec();
     while met.iter().sum::<usize>() < IMAGES {
         let lawful = generate::plan(&mut rng).draft;
         let plan = lawful.bytes();
@@ -149,6 +188,7 @@ fn the_first_number_of_an_image_is_the_librarys_and_single_faults_are_cured() {
         let number = report::number(yard::offered(&plan, &damaged));
         let analysis = image::analyse(&plan, &damaged);
         assert_eq!(analysis.first_number(), number, "{:?}", analysis.faults);
+        meet(&mut missing, analysis.faults.first());
         let (output, status) = image::show(&plan, &damaged);
         assert!(!output.is_empty() && status == u8::from(number != 0));
         met[number as usize] += 1;
@@ -165,6 +205,7 @@ fn the_first_number_of_an_image_is_the_librarys_and_single_faults_are_cured() {
     println!("{IMAGES} images by number: {met:?}; single faults with a mend {single}, accepted after it {cured}");
     assert!(met[11..].iter().all(|&count| count > 0));
     assert_eq!(single, cured);
+    assert_eq!(missing, []);
 }
 
 #[test]
@@ -198,7 +239,7 @@ fn no_plan_and_no_image_makes_a_command_panic() {
 #[test]
 fn a_refused_start_is_told_of_an_accepted_plan() {
     let mut rng = Rng::new(18);
-    let (mut started, mut refused, mut no_way) = (0, 0, 0);
+    let (mut started, mut refused, mut no_way, mut added) = (0, 0, 0, 0);
     for _ in 0..2_000 {
         let plan = generate::plan(&mut rng).draft.bytes();
         let number = report::number(yard::start(&plan, &mut [0; yard::IMAGE_BYTES]));
@@ -210,11 +251,12 @@ fn a_refused_start_is_told_of_an_accepted_plan() {
         let (output, _) = command::check(&plan);
         started += usize::from(number == 0 && output == "accepted\n");
         no_way += usize::from(output.contains("  cure: another first oracle state"));
+        added += usize::from(output.contains("  cure: another table for added oracle"));
         refused += usize::from(output.contains("  cure: other starting locations"));
     }
-    println!("2000 plans: {started} started, {refused} bad at first, {no_way} bad whatever the starting state");
-    assert_eq!(started + refused + no_way, 2_000);
-    assert!(refused > 20 && no_way > 20);
+    println!("2000 plans: {started} started, {refused} bad at first, {no_way} and {added} bad whatever the starting state");
+    assert_eq!(started + refused + no_way + added, 2_000);
+    assert!(refused > 20 && no_way > 20 && added > 20);
 }
 
 /// With nothing on offer, marks tell the two apart: ranks have a highest move, which is on offer or marked where anything is enabled.
@@ -301,7 +343,7 @@ fn a_mend_is_a_small_change() {
                         .any(|&(at, value)| plan.get(at) != Some(&value)));
                 }
                 Some(Mend::Cut(length)) => assert!(length < plan.len()),
-                None => assert!(fault.number <= 3 || fault.number == 10),
+                None => assert!(fault.number <= 3 || fault.number == 10, "{fault:?}"),
             }
         }
     }

@@ -206,7 +206,7 @@ fn random_lane(rng: &mut Rng, plan: &Plan) -> Lane {
             .iter()
             .map(|_| generate::value(rng))
             .collect(),
-        oracle: 0,
+        oracles: vec![0; plan.oracles.len()],
     }
 }
 

@@ -46,7 +46,7 @@ fn assert_unreadable(path: &Path, reason: &str) {
     }
     assert_failed(&run(&["image".as_ref(), path, &sample()]), &line);
     let line = line.replace(
-        "be a plan, which has at most 14,496",
+        "be a plan, which has at most 16,128",
         "be an image, which has 312",
     );
     assert_failed(&run(&["image".as_ref(), sample().as_path(), path]), &line);
@@ -94,7 +94,7 @@ fn large_files_are_not_read() {
             ),
             Some(size) => assert_unreadable(
                 &path,
-                &format!("{size} bytes: too large to be a plan, which has at most 14,496"),
+                &format!("{size} bytes: too large to be a plan, which has at most 16,128"),
             ),
         }
     }
@@ -105,7 +105,7 @@ fn large_files_are_not_read() {
 fn a_device_without_end_is_too_large() {
     assert_unreadable(
         Path::new("/dev/zero"),
-        "more than 1048576 bytes: too large to be a plan, which has at most 14,496",
+        "more than 1048576 bytes: too large to be a plan, which has at most 16,128",
     );
 }
 

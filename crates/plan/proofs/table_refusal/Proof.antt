@@ -1,6 +1,11 @@
+use mathlib.Core.Path.{refl, sym}
+use Prim.Native.Nat.{suc}
+use native.Mathlib.Omega.{arith}
 use lib.ListN.{drop}
-use Rattle.semantics.specs.Plan.{Plan}
-use Rattle.semantics.specs.Rules.{tableRules}
+use Rattle.semantics.specs.Plan.{Plan, addedOracles}
+use Rattle.semantics.specs.Rules.{tableOk, tableRules}
+use Rattle.semantics.proofs.Basics.{every-none}
+use Rattle.words.proofs.Loops.{every-done}
 use Rattle.plan.proofs.Passing.{Left, unasked, passes, stops, asked}
 use borrow.Author.Needs.{needs}
 use Rattle.plan.proofs.table_refusal.Statement.{statement}
@@ -41,7 +46,21 @@ abbrev plan6 : tie.Else6 → Plan
 plan6 c = plan5 (c .before .before)
 
 left6 : (c : tie.Else6) → Left (tableRules (plan6 c)) (drop 6 (tableRules (plan6 c)))
-left6 c = passes (left5 (c .before .before)) (c .before .oracle-ok .ensures) (c .if6 .left)
+left6 c = passes (left5 (c .before .before)) (c .before .first-ok .ensures) (c .if6 .left)
+
+-- with no oracle added there is nothing to test
+left7 : (c : tie.Then7) → let p = plan6 (c .before .before) in Left (tableRules p) (drop 7 (tableRules p))
+left7 c =
+    let p = plan6 (c .before .before) in
+    let none = sym (every-done 0 (addedOracles p) (λ k. tableOk p (suc k)) (every-none (λ k. tableOk p (suc k))) (omega arith)
+    (omega (arith, c .before .added-oracles .ensures .0, c .if7 .taken))) in
+    passes (left6 (c .before .before)) none refl
+
+abbrev plan8 : tie.Else8 → Plan
+plan8 c = plan6 (c .before .before .before .before)
+
+left8 : (c : tie.Else8) → Left (tableRules (plan8 c)) (drop 7 (tableRules (plan8 c)))
+left8 c = passes (left6 (c .before .before .before .before)) (c .before .added-ok .ensures) (c .if8 .left)
 
 components-ok-requires : tie.Need-components-ok-requires
 components-ok-requires c κs = search needs
@@ -73,14 +92,26 @@ ranks-ok-requires c κs = search needs
 returns-5 : tie.Need-returns-5
 returns-5 c = stops (left4 (c .before .before)) (c .before .ranks-ok .ensures) (c .if5 .taken)
 
-oracle-ok-requires : tie.Need-oracle-ok-requires
-oracle-ok-requires c κs = search needs
+first-ok-requires : tie.Need-first-ok-requires
+first-ok-requires c κs = search needs
 
 returns-6 : tie.Need-returns-6
-returns-6 c = stops (left5 (c .before .before)) (c .before .oracle-ok .ensures) (c .if6 .taken)
+returns-6 c = stops (left5 (c .before .before)) (c .before .first-ok .ensures) (c .if6 .taken)
+
+added-oracles-requires : tie.Need-added-oracles-requires
+added-oracles-requires c κs = search needs
 
 returns-7 : tie.Need-returns-7
-returns-7 c = asked (left6 c)
+returns-7 c = asked (left7 c)
+
+added-ok-requires : tie.Need-added-ok-requires
+added-ok-requires c κs = search needs
+
+returns-8 : tie.Need-returns-8
+returns-8 c = stops (left6 (c .before .before .before .before)) (c .before .added-ok .ensures) (c .if8 .taken)
+
+returns-9 : tie.Need-returns-9
+returns-9 c = asked (left8 c)
 
 pub table-refusal-spec : {M : Type 1} → statement M
 table-refusal-spec =
@@ -96,6 +127,10 @@ table-refusal-spec =
     returns-4
     ranks-ok-requires
     returns-5
-    oracle-ok-requires
+    first-ok-requires
     returns-6
-    returns-7)
+    added-oracles-requires
+    returns-7
+    added-ok-requires
+    returns-8
+    returns-9)

@@ -4,6 +4,9 @@
 //! Interaction 16j+c: bay c gives 4-j units to the next bay, and all other bays watch. A bay must not reach CAP.
 //! A bay lies below those 4, 8 and 12 further on, for equal loads. Each bay starts with 4 units, so 64 go round for
 //! ever: to pen the lane, four bays would have to be one unit short of CAP.
+//!
+//! One plan has one oracle, which judges all bays. The other has four, each of which judges four bays: every move ends
+//! as it does in the first.
 
 use crate::code::{Code, Op};
 use crate::plan::{Component, Interaction, Plan, Variable, Verdict};
@@ -29,7 +32,21 @@ struct Bay {
 }
 
 pub fn plan() -> Plan {
-    let mut plan = Plan::new(u32::MAX);
+    lane(u32::MAX, 0b1111)
+}
+
+/// The longest plan: three oracles are added, of as many states as an oracle may have.
+pub fn with_oracles() -> Plan {
+    let mut plan = lane(u32::MAX - 1, 0b0001);
+    for k in 1..4 {
+        plan.added_oracle(ring(k + 1, 1 << k));
+    }
+    plan
+}
+
+/// The lane with its first oracle, which judges these propositions.
+fn lane(number: u32, judged: usize) -> Plan {
+    let mut plan = Plan::new(number);
     let components: Vec<Component> = (0..BAYS).map(|_| plan.component(16, 0, 16)).collect();
     let bays: Vec<Bay> = components.into_iter().map(|c| bay(&mut plan, c)).collect();
     for bay in &bays {
@@ -44,7 +61,10 @@ pub fn plan() -> Plan {
     for four in bays.chunks(4) {
         plan.proposition(overfull(four));
     }
-    oracle(&mut plan);
+    plan.first_oracle_state(30);
+    for (verdict, next) in ring(1, judged) {
+        plan.oracle_state(verdict, next);
+    }
     plan
 }
 
@@ -157,15 +177,17 @@ fn lengthened(mut code: Code) -> Code {
     code
 }
 
-/// Thirty-one good states in a ring, and the bad one.
-fn oracle(plan: &mut Plan) {
+/// Thirty-one good states in a ring, in which each good move goes so many on, and the bad one, once a proposition of
+/// those judged is true.
+fn ring(step: u8, judged: usize) -> Vec<(Verdict, Vec<u8>)> {
     const BAD: u8 = 31;
-    plan.first_oracle_state(30);
-    for state in 0..BAD {
-        let next = (0..16)
-            .map(|letter| if letter == 0 { (state + 1) % BAD } else { BAD })
-            .collect();
-        plan.oracle_state(Verdict::CurrentlyTrue, next);
-    }
-    plan.oracle_state(Verdict::Bad, vec![BAD; 16]);
+    let next = |state: u8| {
+        let one = |letter: usize| match letter & judged {
+            0 => (state + step) % BAD,
+            _ => BAD,
+        };
+        (0..16).map(one).collect()
+    };
+    let good = (0..BAD).map(|state| (Verdict::CurrentlyTrue, next(state)));
+    good.chain([(Verdict::Bad, vec![BAD; 16])]).collect()
 }

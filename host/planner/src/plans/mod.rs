@@ -6,6 +6,7 @@ pub mod philosophers;
 pub mod robots;
 pub mod sample;
 pub mod tasks;
+pub mod wet_bales;
 
 use crate::plan::Plan;
 
@@ -21,5 +22,7 @@ pub fn all() -> Vec<(&'static str, Plan)> {
         ("tasks.plan", tasks::plan()),
         ("chain.plan", chain::plan()),
         ("maximal.plan", maximal::plan()),
+        ("maximal-oracles.plan", maximal::with_oracles()),
+        ("wet-bales.plan", wet_bales::plan()),
     ]
 }

@@ -1,5 +1,6 @@
-//! The cases, limits and refusals of 01, run on the reference.
+//! The cases, limits and refusals of 01, and the added oracles of 02, run on the reference.
 
+mod added;
 mod book;
 mod cases;
 mod limits;

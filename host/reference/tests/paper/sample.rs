@@ -75,6 +75,7 @@ pub fn sample() -> Draft {
         interactions: vec![interaction(1), interaction(0), interaction(2)],
         propositions: vec![words(5, 5)],
         oracle: vec![state(2, &[0, 1]), state(0, &[1, 1])],
+        added: Vec::new(),
         code: CODE.to_vec(),
     }
 }

@@ -1,6 +1,6 @@
-//! 2: a count or the first oracle state outside its range.
+//! 2: a count or the first oracle state outside its range; `added` has bytes 42 to 45.
 
-use super::Fault;
+use super::{added, Fault};
 use crate::layout::{field, CountRule, Counts, COUNTS, FIRST, MOST_STATES};
 use crate::mend::Mend;
 use crate::text::{counted, one_below, thousands};
@@ -15,8 +15,10 @@ pub fn faults(bytes: &[u8]) -> Vec<Fault> {
         }
         let stated = field(bytes, rule.at);
         let outside = stated.filter(|&count| !rule.allows(count));
-        faults.extend(outside.map(|count| out_of_range(rule, count, laid_out.map(|l| l.0[n]))));
+        let room = laid_out.map(|l| l.fields[n]);
+        faults.extend(outside.map(|count| out_of_range(rule, count, room)));
     }
+    faults.extend(added::faults(bytes, laid_out.as_ref()));
     faults
 }
 

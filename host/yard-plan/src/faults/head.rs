@@ -1,4 +1,4 @@
-//! 1: fewer than 48 bytes, wrong letters, or bytes 42 to 47 not zero.
+//! 1: fewer than 48 bytes, wrong letters, or byte 46 or 47 not zero.
 
 use super::Fault;
 use crate::layout::{HEAD_BYTES, LETTERS, ZEROS};
@@ -52,7 +52,7 @@ fn zeros(bytes: &[u8]) -> Option<Fault> {
         number: 1,
         what: "header".to_string(),
         place: ZEROS.start + filled,
-        text: format!("bytes 42 to 47 are {}, but must be zero", list(found)),
+        text: format!("bytes 46 and 47 are {}, but must be zero", list(found)),
         cure: "zeros".to_string(),
         mend: Some(Mend::Write(writes)),
     })

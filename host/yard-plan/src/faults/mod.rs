@@ -1,5 +1,6 @@
-//! What is wrong with a plan: every fault that can be told, in the order of the refusal numbers.
+//! What is wrong with a plan: every fault that can be told, in the order in which the refusals are tested.
 
+mod added;
 pub mod code;
 mod components;
 mod counts;
@@ -28,6 +29,9 @@ pub struct Fault {
     /// A change of bytes after which the fault is gone; none where no such change would do. It is no advice, which is the cure's.
     pub mend: Option<Mend>,
 }
+
+/// A plan's refusals in the order in which they are tested.
+pub const ORDER: [u32; 11] = [1, 2, 3, 4, 5, 6, 7, 8, 9, 20, 10];
 
 /// The faults found, and what is said where there may be more that cannot be told yet.
 pub struct Analysis {

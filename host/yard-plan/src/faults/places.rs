@@ -1,6 +1,6 @@
 //! 3: an offset, the stated length or the file's own length is not as the counts give.
 
-use super::Fault;
+use super::{added, Fault};
 use crate::layout::{field, Counts, Layout, COUNTS, HEAD_BYTES, LENGTH, OFFSETS, SECTIONS};
 use crate::mend::Mend;
 use crate::text::count;
@@ -91,8 +91,9 @@ fn first_field(bytes: &[u8], layout: &Layout) -> String {
 /// The offsets and lengths agree with each other and not with the counts: each count that differs is the fault. Those outside their ranges
 /// are told of under 2.
 fn wrong_counts(stated: &Counts, laid_out: &Counts, example: &str) -> Vec<Fault> {
-    let counts = COUNTS.iter().zip(stated.0).zip(laid_out.0);
+    let counts = COUNTS.iter().zip(stated.fields).zip(laid_out.fields);
     let wrong = counts.filter(|((rule, stated), room)| stated != room && rule.allows(*stated));
+    let added = added::wrong_layout(&stated.added, &laid_out.added, example);
     wrong
         .map(|((rule, stated), room)| {
             let name = rule.name;
@@ -105,6 +106,7 @@ fn wrong_counts(stated: &Counts, laid_out: &Counts, example: &str) -> Vec<Fault>
                 Some(Mend::field(rule.at, room)),
             )
         })
+        .chain(added)
         .collect()
 }
 

@@ -1,17 +1,19 @@
 //! 13: an oracle state out of range or bad, a location or last port out of range, or an unused entry filled.
 
 use super::places::{
-    Image, COMPONENTS, LAST_COPY, LAST_PORTS, LOCATIONS, ORACLE, VALUES, VARIABLES,
+    Image, COMPONENTS, LAST_COPY, LAST_PORTS, LOCATIONS, MOST_ORACLES, ORACLES, VALUES, VARIABLES,
 };
 use crate::faults::Fault;
 use crate::judged::NO_PORT;
 use crate::mend::Mend;
 use crate::tables::Tables;
-use crate::text::{counted, verdict};
+use crate::text::{counted, oracle_has, oracle_state, verdict};
 
 pub fn faults(tables: &Tables, image: &Image) -> Vec<Fault> {
-    let components = tables.components.len();
-    let mut faults: Vec<Fault> = oracle(tables, image).into_iter().collect();
+    let (oracles, components) = (tables.oracles.len(), tables.components.len());
+    let mut faults = Vec::new();
+    faults.extend((0..oracles).filter_map(|n| oracle(tables, image, n)));
+    faults.extend((oracles..MOST_ORACLES).filter_map(|n| unused_oracle(image, n)));
     faults.extend((0..components).filter_map(|c| location(tables, image, c)));
     faults.extend((components..COMPONENTS).filter_map(|c| unused_location(image, c)));
     faults.extend((0..components).filter_map(|c| last_port(tables, image, c)));
@@ -32,22 +34,17 @@ fn fault(place: usize, text: String, cure: String, mend: Option<Mend>) -> Fault 
     }
 }
 
-fn oracle(tables: &Tables, image: &Image) -> Option<Fault> {
-    let state = image.oracle();
-    let text = match tables.oracle.get(usize::from(state)) {
-        None => {
-            let has = counted(tables.oracle.len(), "oracle state");
-            format!("oracle state {state}, but the plan has {has}")
-        }
+fn oracle(tables: &Tables, image: &Image, n: usize) -> Option<Fault> {
+    let (state, states) = (image.oracle(n), &tables.oracles[n]);
+    let name = oracle_state(n, state);
+    let text = match states.get(usize::from(state)) {
+        None => format!("{name}, but {}", oracle_has(n, states.len())),
         Some(found) if found.verdict == 0 => {
-            format!(
-                "oracle state {state} has {}, and no lane is left in it",
-                verdict(0)
-            )
+            format!("{name} has {}, and no lane is left in it", verdict(0))
         }
         Some(_) => return None,
     };
-    Some(fault(ORACLE, text, LAST_COPY.to_string(), None))
+    Some(fault(ORACLES + n, text, LAST_COPY.to_string(), None))
 }
 
 fn location(tables: &Tables, image: &Image, c: usize) -> Option<Fault> {
@@ -70,7 +67,7 @@ fn last_port(tables: &Tables, image: &Image, c: usize) -> Option<Fault> {
     })
 }
 
-/// An entry of a component or variable that the plan lacks.
+/// An entry of an oracle, component or variable that the plan lacks.
 fn unused(place: usize, entry: String, found: i32, free: u8, mend: Mend) -> Fault {
     let text = format!("{entry}, which the plan lacks, is {found}, but unused ones are {free}");
     fault(
@@ -79,6 +76,12 @@ fn unused(place: usize, entry: String, found: i32, free: u8, mend: Mend) -> Faul
         format!("{LAST_COPY}; or {free} here"),
         Some(mend),
     )
+}
+
+fn unused_oracle(image: &Image, n: usize) -> Option<Fault> {
+    let (found, place) = (image.oracle(n), ORACLES + n);
+    let entry = format!("the state of added oracle {n}");
+    (found != 0).then(|| unused(place, entry, found.into(), 0, Mend::byte(place, 0)))
 }
 
 fn unused_location(image: &Image, c: usize) -> Option<Fault> {

@@ -1,6 +1,6 @@
-//! 11: the image is not 312 bytes. 12: bytes 0 to 7 or 9 to 15 do not match form 1 and the plan.
+//! 11: the image is not 312 bytes. 12: bytes 0 to 7 or 12 to 15 do not match form 1 and the plan.
 
-use super::places::{Image, COUNTS, FORM, LAST_COPY, LETTERS, NUMBER, ZEROS};
+use super::places::{Image, COUNTS, FORM, LAST_COPY, LETTERS, NUMBER};
 use crate::faults::Fault;
 use crate::layout;
 use crate::mend::Mend;
@@ -51,9 +51,7 @@ pub fn same_plan(plan: &[u8], tables: &Tables, image: &Image) -> bool {
 
 /// What the image says of the plan that it belongs to, where that is all by which it is not of this one.
 pub fn own(plan: &[u8], tables: &Tables, image: &Image) -> String {
-    let damaged = !image.0.starts_with(LETTERS)
-        || image.0[FORM] != 1
-        || image.0[ZEROS].iter().any(|&byte| byte != 0);
+    let damaged = !image.0.starts_with(LETTERS) || image.0[FORM] != 1;
     if damaged || same_plan(plan, tables, image) {
         return String::new();
     }
@@ -81,12 +79,6 @@ pub fn faults(plan: &[u8], tables: &Tables, image: &Image) -> Vec<Fault> {
             let text = format!("{name} {found}, but the plan has {count}");
             faults.push(fault(COUNTS + n, text, OTHER_PLAN, None));
         }
-    }
-    if let Some(at) = ZEROS.into_iter().find(|&at| image.0[at] != 0) {
-        let found = list(&image.0[ZEROS]);
-        let text = format!("bytes 9 to 11 are {found}, but must be zero");
-        let mend = Mend::Write(ZEROS.map(|at| (at, 0)).collect());
-        faults.push(fault(at, text, LAST_COPY, Some(mend)));
     }
     let number = layout::number(plan).unwrap_or(0);
     if image.number() != number {

@@ -11,7 +11,7 @@ use crate::faults::Fault;
 use crate::judged::NO_PORT;
 use crate::mend::Mend;
 use crate::tables::Tables;
-use crate::text::{bits, counted, list, verdict};
+use crate::text::{bits, counted, list, oracle_state, verdict};
 
 fn fault(image: &Image, mark: usize, why: String) -> Fault {
     let place = MARKS + mark / 8;
@@ -62,7 +62,9 @@ fn lane(tables: &Tables, image: &Image) -> Lane {
         values: (0..tables.variables.len())
             .map(|n| image.value(n))
             .collect(),
-        oracle: image.oracle().into(),
+        oracles: (0..tables.oracles.len())
+            .map(|n| image.oracle(n).into())
+            .collect(),
     }
 }
 
@@ -77,13 +79,19 @@ fn why(plan: &Plan, tables: &Tables, lane: &Lane, mark: usize) -> Option<String>
         let above = (0..enabled.len()).filter(|&j| enabled[j] && plan.below(mark, j));
         return Some(format!("which is outranked by {}", list(above)));
     }
-    after.good(plan).then(|| {
-        let verdict = verdict(plan.oracle[after.oracle].verdict);
-        format!(
-            "which would end well: oracle state {}, {verdict}",
-            after.oracle
-        )
-    })
+    after
+        .good(plan)
+        .then(|| format!("which would end well: {}", verdicts(plan, &after)))
+}
+
+/// The state of each oracle with its verdict.
+fn verdicts(plan: &Plan, lane: &Lane) -> String {
+    let states = lane.oracles.iter().enumerate();
+    let told = states.map(|(n, &state)| {
+        let verdict = verdict(plan.oracles[n][state].verdict);
+        format!("{}, {verdict}", oracle_state(n, state))
+    });
+    Vec::from_iter(told).join("; ")
 }
 
 /// The first cause for which an interaction is not enabled.

@@ -11,7 +11,7 @@ use crate::faults::{self, Analysis, Fault};
 use crate::report;
 use crate::show;
 use crate::tables::Tables;
-use crate::text::{bits, last_port, verdict};
+use crate::text::{bits, last_port, oracle_state, verdict};
 
 use places::Image;
 use swapped::Swapped;
@@ -96,12 +96,16 @@ fn lane(tables: &Tables, image: &Image, offered: Vec<String>) -> String {
 }
 
 fn state(tables: &Tables, image: &Image) -> Vec<String> {
-    let state = tables.oracle.get(usize::from(image.oracle()));
-    let told = state.map_or("not of this plan".to_string(), |s| verdict(s.verdict));
-    vec![
-        format!("plan number {}", image.number()),
-        format!("oracle state {}: {told}", image.oracle()),
-    ]
+    let mut lines = vec![format!("plan number {}", image.number())];
+    lines.extend((0..tables.oracles.len()).map(|n| oracle(tables, image, n)));
+    lines
+}
+
+fn oracle(tables: &Tables, image: &Image, n: usize) -> String {
+    let state = image.oracle(n);
+    let found = tables.oracles[n].get(usize::from(state));
+    let told = found.map_or("not of this plan".to_string(), |s| verdict(s.verdict));
+    format!("{}: {told}", oracle_state(n, state))
 }
 
 fn components(tables: &Tables, image: &Image) -> Vec<String> {

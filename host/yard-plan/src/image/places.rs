@@ -3,8 +3,7 @@
 pub const LETTERS: &[u8; 4] = b"YARD";
 pub const FORM: usize = 4;
 pub const COUNTS: usize = 5;
-pub const ORACLE: usize = 8;
-pub const ZEROS: std::ops::Range<usize> = 9..12;
+pub const ORACLES: usize = 8;
 pub const NUMBER: usize = 12;
 pub const MARKS: usize = 16;
 pub const LOCATIONS: usize = 24;
@@ -12,7 +11,8 @@ pub const LAST_PORTS: usize = 40;
 pub const VALUES: usize = 56;
 /// The cure of damage that comes before any other.
 pub const LAST_COPY: &str = "take the last good copy, or start anew";
-/// Components and variables that an image has room for.
+/// Oracles, components and variables that an image has room for.
+pub const MOST_ORACLES: usize = 4;
 pub const COMPONENTS: usize = 16;
 pub const VARIABLES: usize = 64;
 
@@ -25,8 +25,9 @@ impl<'a> Image<'a> {
         bytes.try_into().ok().map(Image)
     }
 
-    pub fn oracle(&self) -> u8 {
-        self.0[ORACLE]
+    /// The state of an oracle: 0 is the first, the added ones follow.
+    pub fn oracle(&self, oracle: usize) -> u8 {
+        self.0[ORACLES + oracle]
     }
 
     fn four(&self, at: usize) -> [u8; 4] {

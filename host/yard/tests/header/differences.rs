@@ -3,7 +3,7 @@
 use std::fmt::Display;
 
 /// Each refusal of the header, with words that its rule alone has.
-const REFUSALS: [(&str, &str); 19] = [
+const REFUSALS: [(&str, &str); 20] = [
     ("YARD_BAD_HEAD", "headOk"),
     ("YARD_BAD_COUNT", "countsOk"),
     ("YARD_BAD_LAYOUT", "layoutOk"),
@@ -12,7 +12,8 @@ const REFUSALS: [(&str, &str); 19] = [
     ("YARD_BAD_TRANSITION", "transitionOk"),
     ("YARD_BAD_INTERACTION", "interactionOk"),
     ("YARD_BAD_RANK", "rankOk"),
-    ("YARD_BAD_ORACLE", "oracleOk"),
+    ("YARD_BAD_ORACLE", "tableOk p 0"),
+    ("YARD_BAD_ADDED", "tableOk p (suc k)"),
     ("YARD_BAD_CODE", "codeOk"),
     ("YARD_BAD_LENGTH", "imageLength"),
     ("YARD_OTHER_PLAN", "headMatches"),
@@ -66,7 +67,7 @@ pub fn named<T: Display + PartialEq>(
     found
 }
 
-/// The refusals against the rules: each rule has one name and its own number, in the order of the numbers.
+/// The refusals against the rules: each rule has one name and its own number, in the order of the rules.
 pub fn refusals(header: &[(String, u32)], rules: &[(u32, String)]) -> Vec<String> {
     let name_of = |text: &str| REFUSALS.iter().find(|(_, words)| text.contains(words));
     let mut wanted = Vec::new();
@@ -80,7 +81,12 @@ pub fn refusals(header: &[(String, u32)], rules: &[(u32, String)]) -> Vec<String
             found.push(format!("{number} is the number of two rules"));
         }
     }
-    for pair in header.windows(2).filter(|pair| pair[0].1 >= pair[1].1) {
+    let place = |number: u32| rules.iter().position(|(other, _)| *other == number);
+    let turned = |pair: &&[(String, u32)]| match (place(pair[0].1), place(pair[1].1)) {
+        (Some(first), Some(second)) => first >= second,
+        _ => false,
+    };
+    for pair in header.windows(2).filter(turned) {
         found.push(format!("{} stands before {}", pair[0].0, pair[1].0));
     }
     found.extend(named(header, &wanted));

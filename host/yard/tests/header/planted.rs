@@ -35,24 +35,25 @@ calls | penned = record { kind = 4 | penned = record { kind = 3 | YARD_PENNED: t
 header | YARD_STALLED = 3, |  | YARD_STALLED is not in the header, wanted: 3
 header | YARD_REFUSED = 5 | YARD_REFUSED = 5, YARD_LATE = 6 | YARD_LATE: the header alone has 6
 # another refusal number
-header | YARD_MARKED = 19 | YARD_MARKED = 20 | YARD_MARKED: the header has 20, wanted: 19
+header | YARD_MARKED = 19 | YARD_MARKED = 28 | YARD_MARKED: the header has 28, wanted: 19
 header | YARD_BAD_HEAD = 1 | YARD_BAD_HEAD = 2 | YARD_BAD_HEAD stands before YARD_BAD_COUNT; YARD_BAD_HEAD: the header has 2, wanted: 1
 rules | rule 9 ( | rule 8 ( | 8 is the number of two rules; 8 is the number of two rules; YARD_BAD_ORACLE: the header has 9, wanted: 8
-calls | rule 15 ( | rule 20 ( | YARD_BAD_START: the header has 15, wanted: 20
+calls | rule 15 ( | rule 28 ( | YARD_BAD_START: the header has 15, wanted: 28
 # two rules with each other's numbers
 rules | (headOk p) ∷ rule 2 (countsOk p) | (countsOk p) ∷ rule 2 (headOk p) | YARD_BAD_COUNT: the header has 2, wanted: 1; YARD_BAD_HEAD: the header has 1, wanted: 2
+rules | rule 9 (tableOk p 0) ∷ rule 20 | rule 20 (tableOk p 0) ∷ rule 9 | YARD_BAD_ORACLE stands before YARD_BAD_ADDED; YARD_BAD_ORACLE: the header has 9, wanted: 20; YARD_BAD_ADDED: the header has 20, wanted: 9
 # a missing or extra refusal
 header | YARD_OUTRANKED = 18, |  | YARD_OUTRANKED is not in the header, wanted: 18
 image | rule 12 (headMatches p b) ∷ |  | YARD_OTHER_PLAN: the header alone has 12
-calls | ∷ rule 19 ( | ∷ rule 20 (late p b) ∷ rule 19 ( | rule 20 has no name: late p b
-header | YARD_MARKED = 19 | YARD_MARKED = 19, YARD_LATE = 20 | YARD_LATE: the header alone has 20
+calls | ∷ rule 19 ( | ∷ rule 28 (late p b) ∷ rule 19 ( | rule 28 has no name: late p b
+header | YARD_MARKED = 19 | YARD_MARKED = 19, YARD_LATE = 28 | YARD_LATE: the header alone has 28
 # another length or place of the image
 header | YARD_IMAGE_BYTES = 312 | YARD_IMAGE_BYTES = 311 | YARD_IMAGE_BYTES: the header has 311, wanted: 312
 image | imageLength = 312 | imageLength = 320 | YARD_IMAGE_BYTES: the header has 312, wanted: 320
 header | YARD_IMAGE_MARKS = 16 | YARD_IMAGE_MARKS = 15 | YARD_IMAGE_MARKS: the header has 15, wanted: 16
 header | YARD_IMAGE_ORACLE = 8, |  | YARD_IMAGE_ORACLE is not in the header, wanted: 8
 image | valuePlace v = 56 | valuePlace v = 60 | YARD_IMAGE_VALUES: the header has 56, wanted: 60
-image | ∷ q ∷ 0 ∷ | ∷ q ∷ | YARD_IMAGE_PLAN_NUMBER: the header has 12, wanted: 11
+image | ∷ getD qs 1 0 ∷ | ∷ | YARD_IMAGE_PLAN_NUMBER: the header has 12, wanted: 11
 # another packing
 header | >> 16 | >> 8 | the header's directives are other ones: Some("#define YARD_KIND(answer) ((uint32_t)(answer) >> 8)")
 header | #define YARD_H | #define YARD_H 1 | the header's directives are other ones: Some("#define YARD_H 1")
@@ -111,4 +112,14 @@ fn two_refusals_with_each_others_numbers_are_found() {
     assert!(found.contains("YARD_NOT_ENABLED stands before YARD_OUTRANKED"));
     assert!(found.contains("YARD_NOT_ENABLED: the header has 18, wanted: 17"));
     assert!(found.contains("YARD_OUTRANKED: the header has 17, wanted: 18"));
+}
+
+#[test]
+fn a_refusal_out_of_the_order_of_the_rules_is_found() {
+    let mut texts = Texts::ours();
+    let (code, added) = ("YARD_BAD_CODE = 10,", "YARD_BAD_ADDED = 20,");
+    edit(&mut texts.header, added, "");
+    edit(&mut texts.header, code, &format!("{code} {added}"));
+    let found = texts.differences();
+    assert_eq!(found, ["YARD_BAD_CODE stands before YARD_BAD_ADDED"]);
 }

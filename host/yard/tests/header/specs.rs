@@ -57,7 +57,7 @@ pub fn places(image: &str) -> Result<Named<u32>, String> {
         ("COMPONENTS", in_head(image, "components p")?),
         ("VARIABLES", in_head(image, "variables p")?),
         ("INTERACTIONS", in_head(image, "interactions p")?),
-        ("ORACLE", defined(image, "oraclePlace")?),
+        ("ORACLE", defined(image, "oraclesPlace")?),
         ("PLAN_NUMBER", in_head(image, "numberByte p 0")?),
         ("MARKS", defined(image, "marksPlace")?),
         ("LOCATIONS", defined(image, "locationsPlace")?),
@@ -81,7 +81,7 @@ fn defined(text: &str, name: &str) -> Result<u32, String> {
 
 /// The place of an entry in the list of bytes that an image begins with.
 fn in_head(image: &str, entry: &str) -> Result<u32, String> {
-    let behind = image.split("\nhead p q =").nth(1).unwrap_or("");
+    let behind = image.split("\nhead p qs =").nth(1).unwrap_or("");
     let list = behind.split("[]").next().unwrap_or("");
     let found = list.split('∷').position(|byte| byte.trim() == entry);
     found

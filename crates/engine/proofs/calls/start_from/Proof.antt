@@ -3,10 +3,11 @@ use mathlib.Core.Path.{_≡_, sym, ap, _∙_, subst}
 use mathlib.Core.Bool.{true}
 use lib.ListN.{length}
 use Rattle.semantics.specs.Rules.{planRefusal}
-use Rattle.semantics.specs.Move.{Configuration, judged, oracleInRange, good, initial}
+use Rattle.semantics.specs.Move.{Configuration, judged, oraclesInRange, good, initial}
 use Rattle.semantics.specs.Image.{imageLength, image}
 use Rattle.semantics.proofs.Basics.{not-yes, not-no}
-use Rattle.semantics.proofs.AcceptedPlan.{accepted-plan, counts-of}
+use Rattle.semantics.proofs.AcceptedPlan.{accepted-plan}
+use Rattle.semantics.proofs.Oracles.{start-in-range}
 use Rattle.lane.specs.declared.run.Run.{Run}
 use Rattle.lane.specs.Runs.{lent, stateOf, Sized}
 use Rattle.moves.proofs.SearchLaws.{ends-good}
@@ -27,7 +28,7 @@ long : (c : tie.Else2) → length (begun (c .before) .args .image .now) ≡ imag
 long c = c .if2 .left
 
 abbrev begins : tie.After-judge → tie.After-starting
-begins c = c .before .before .before .before .before
+begins c = c .before .before .before .before .before .before .before .before
 
 abbrev kept : tie.After-judge → tie.Else2
 kept c = begins c .before
@@ -40,7 +41,7 @@ made : (c : tie.After-judge)
     → let r = begins c .starting .result in
     lent (r .locations) (r .«last_ports») (r .values) (c .judge .result) ≡ initial (begun (kept c .before) .args .plan .now)
 unfolding initial
-made c = c .judge .ensures .0 ∙ ap (λ (r : Run). judged (begun (kept c .before) .args .plan .now) (r .oracle) (stateOf r)) (begins c .starting .ensures)
+made c = c .judge .ensures .0 ∙ ap (λ (r : Run). judged (begun (kept c .before) .args .plan .now) (r .oracles) (stateOf r)) (begins c .starting .ensures)
 
 good-is : (c : tie.After-good2) → c .good2 .result ≡ good (begun (kept (c .before) .before) .args .plan .now) (initial (begun (kept (c .before) .before) .args .plan .now))
 good-is c =
@@ -64,11 +65,11 @@ starting-requires c κs = accepted (c .before)
 
 judge-requires : tie.Need-judge-requires
 judge-requires c κs =
-    let t = c .before .before .before .before in
+    let t = c .before .before .before .before .before .before .before in
     let k = t .before .before in
     let p = begun k .args .plan .now in
     let h = accepted k in
-    (h, subst (λ (r : Run). oracleInRange p (r .oracle) ≡ true) (sym (t .starting .ensures)) (counts-of p (accepted-plan p h .counts) .first))
+    (h, subst (λ (r : Run). oraclesInRange p (r .oracles) ≡ true) (sym (t .starting .ensures)) (start-in-range p (accepted-plan p h)))
 
 good-requires : tie.Need-good-requires
 good-requires c κs = search needs
@@ -82,7 +83,7 @@ returns-3 c =
 
 store-requires : tie.Need-store-requires
 store-requires c κs =
-    let j = c .before .before .before .before .before .before .before in
+    let j = c .before .before .before .before .before .before in
     let k = kept j in
     (accepted (k .before), (long k, sized (begins j)))
 
@@ -92,7 +93,7 @@ same-length c = search needs
 returns-4 : tie.Need-returns-4
 unfolding answerOf
 returns-4 c =
-    let g = c .before .before .before .before .before .before .before .before in
+    let g = c .before .before .before .before .before .before .before in
     let j = g .before .before in
     let k = kept j in
     let s = begun (k .before) in

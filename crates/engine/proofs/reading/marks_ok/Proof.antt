@@ -19,7 +19,7 @@ word s = search needs
 
 -- the configuration that is lent
 abbrev held : tie.Start → Configuration
-held s = lent (s .args .locations .now) (s .args .ports .now) (s .args .values .now) (s .args .oracle)
+held s = lent (s .args .locations .now) (s .args .ports .now) (s .args .values .now) (s .args .oracles)
 
 -- all marks are on eligible interactions
 within : (c : tie.Else1) → every maxInteractions (λ j. implies (bit (c .before .before .before .args .marks) j) (bit (c .before .before .before .args .eligible) j)) ≡ true

@@ -5,19 +5,18 @@ use lib.Dec.{eqb}
 use borrow.Author.Needs.{needs}
 use Rattle.semantics.specs.Bytes.{byte, allOf, every}
 use Rattle.semantics.specs.Plan.{Plan, components, variables, interactions, numberByte}
-use Rattle.semantics.specs.Image.{Image, head, headMatches}
+use Rattle.semantics.specs.Image.{Image, head, oracleByte, headMatches}
 use Rattle.layout.proofs.Sections.{laid-accepted}
 use Rattle.lane.proofs.image.head_matches.Statement.{statement}
 use Rattle.lane.proofs.image.head_matches.Tie as tie
 
 -- the tests of a head, part by part
 head-tests : (p : Plan) (b : Image)
-    → ((((((allOf (eqb (byte b 0) 89 ∷ eqb (byte b 1) 65 ∷ eqb (byte b 2) 82 ∷ eqb (byte b 3) 68 ∷ []) && eqb (byte b 4) 1)
+    → (((allOf (eqb (byte b 0) 89 ∷ eqb (byte b 1) 65 ∷ eqb (byte b 2) 82 ∷ eqb (byte b 3) 68 ∷ []) && eqb (byte b 4) 1)
     && allOf (eqb (byte b 5) (components p) ∷ eqb (byte b 6) (variables p) ∷ eqb (byte b 7) (interactions p) ∷ []))
-    && eqb (byte b 9) 0) && eqb (byte b 10) 0) && eqb (byte b 11) 0)
     && allOf (eqb (byte b 12) (numberByte p 0) ∷ eqb (byte b 13) (numberByte p 1) ∷ eqb (byte b 14) (numberByte p 2) ∷ eqb (byte b 15) (numberByte p 3) ∷ []))
     ≡ headMatches p b
-unfolding headMatches head every allOf
+unfolding headMatches oracleByte head every allOf
 head-tests p b = simp (and-assoc, and-true)
 
 tagged-requires : tie.Need-tagged-requires
@@ -29,26 +28,11 @@ shared-slice-read-result c = search needs
 counts-match-requires : tie.Need-counts-match-requires
 counts-match-requires c κs = let s = c .before .before .before .before .before in (laid-accepted _ (s .pre .0), s .pre .1)
 
-shared-slice-read-result-2 : tie.Need-shared-slice-read-result-2
-shared-slice-read-result-2 c = search needs
-
-add-result : tie.Need-add-result
-add-result c = search needs
-
-shared-slice-read-result-3 : tie.Need-shared-slice-read-result-3
-shared-slice-read-result-3 c = search needs
-
-add-result-2 : tie.Need-add-result-2
-add-result-2 c = search needs
-
-shared-slice-read-result-4 : tie.Need-shared-slice-read-result-4
-shared-slice-read-result-4 c = search needs
-
 number-matches-requires : tie.Need-number-matches-requires
-number-matches-requires c κs = let s = c .before .before .before .before .before .before .before .before .before in (laid-accepted _ (s .pre .0), s .pre .1)
+number-matches-requires c κs = let s = c .before .before .before .before .before .before in (laid-accepted _ (s .pre .0), s .pre .1)
 
 returns : tie.Need-returns
-returns c = let k = c .before .before .before .before in let t = k .before .before in
+returns c = let k = c .before in let t = k .before .before in
     let s = t .before .before .before .before in
     rw (t .tagged .ensures, k .counts-match .ensures, c .number-matches .ensures)
     (head-tests (s .args .plan .now) (s .args .image .now))
@@ -60,10 +44,5 @@ head-matches-spec =
     tagged-requires
     shared-slice-read-result
     counts-match-requires
-    shared-slice-read-result-2
-    add-result
-    shared-slice-read-result-3
-    add-result-2
-    shared-slice-read-result-4
     number-matches-requires
     returns)

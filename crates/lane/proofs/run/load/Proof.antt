@@ -1,25 +1,34 @@
-use mathlib.Core.Path.{sym, _∙_}
-use lib.ListN.{length}
 use borrow.Author.Needs.{needs}
-use Rattle.semantics.specs.Image.{imageLength}
-use Rattle.semantics.proofs.Basics.{eq-eqb, ne-eqb}
-use Rattle.lane.specs.Runs.{loaded}
+use Rattle.semantics.specs.Image.{configurationOf, marksOf}
 use Rattle.lane.proofs.run.load.Statement.{statement}
 use Rattle.lane.proofs.run.load.Tie as tie
 
-blank-requires : tie.Need-blank-requires
-blank-requires c κs = search needs
+bytes16-requires : tie.Need-bytes16-requires
+bytes16-requires c κs = search needs
+
+bytes16-requires-2 : tie.Need-bytes16-requires-2
+bytes16-requires-2 c κs = search needs
+
+values64-requires : tie.Need-values64-requires
+values64-requires c κs = search needs
+
+bytes4-requires : tie.Need-bytes4-requires
+bytes4-requires c κs = search needs
+
+u64-at-requires : tie.Need-u64-at-requires
+u64-at-requires c κs = search needs
 
 returns : tie.Need-returns
-unfolding loaded
-returns c = rw (ne-eqb (length (c .before .before .before .args .image .now)) imageLength (c .before .if1 .taken)) (c .blank .ensures)
-
-unpacked-requires : tie.Need-unpacked-requires
-unpacked-requires c κs = search needs
-
-returns-2 : tie.Need-returns-2
-unfolding loaded
-returns-2 c = rw (eq-eqb (length (c .before .before .before .args .image .now)) imageLength (c .before .if1 .left)) (c .unpacked .ensures)
+unfolding configurationOf marksOf
+returns c = rw (c .before .before .before .before .bytes16 .ensures, c .before .before .before .bytes162 .ensures, c .before .before .values64 .ensures, c .before .bytes4 .ensures, c .u64-at .ensures)
 
 pub load-spec : {M : Type 1} → statement M
-load-spec = tie.close (tie.spec blank-requires returns unpacked-requires returns-2)
+load-spec =
+    tie.close
+    (tie.spec
+    bytes16-requires
+    bytes16-requires-2
+    values64-requires
+    bytes4-requires
+    u64-at-requires
+    returns)

@@ -17,6 +17,18 @@ variable-byte-requires c κs = laid-accepted _ (c .before .before .before .pre .
 interaction-byte-requires : tie.Need-interaction-byte-requires
 interaction-byte-requires c κs = laid-accepted _ (c .before .before .before .before .pre .0)
 
+array-read-t12 : tie.Need-array-read-t12
+array-read-t12 c = search needs
+
+array-read-t15 : tie.Need-array-read-t15
+array-read-t15 c = search needs
+
+array-read-t18 : tie.Need-array-read-t18
+array-read-t18 c = search needs
+
+array-read-t21 : tie.Need-array-read-t21
+array-read-t21 c = search needs
+
 number-byte-requires : tie.Need-number-byte-requires
 number-byte-requires c κs = (laid-accepted _ (c .before .before .before .before .before .pre .0) .long, omega arith)
 
@@ -74,6 +86,10 @@ put-head-spec =
     component-byte-requires
     variable-byte-requires
     interaction-byte-requires
+    array-read-t12
+    array-read-t15
+    array-read-t18
+    array-read-t21
     number-byte-requires
     number-byte-requires-2
     number-byte-requires-3

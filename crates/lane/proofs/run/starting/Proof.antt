@@ -1,12 +1,12 @@
 use mathlib.Core.Path.{_≡_, refl}
 use native.Mathlib.Omega.{arith}
+use mathlib.Core.List.{[], _∷_}
 use lib.ListN.{replicate}
 use borrow.Author.Needs.{needs}
 use Rattle.semantics.specs.Bytes.{table}
-use Rattle.semantics.specs.Plan.{Plan, maxComponents, noPort, firstOracle}
+use Rattle.semantics.specs.Plan.{Plan, maxComponents, noPort, statesBefore}
 use Rattle.semantics.specs.Move.{initialState}
 use Rattle.semantics.proofs.AcceptedPlan.{accepted-plan, counts-of}
-use Rattle.semantics.proofs.Sound.{range-lt}
 use Rattle.layout.proofs.Sections.{laid-accepted}
 use Rattle.lane.proofs.run.starting.Statement.{statement}
 use Rattle.lane.proofs.run.starting.Tie as tie
@@ -23,10 +23,11 @@ start-values-requires : tie.Need-start-values-requires
 start-values-requires c κs = search needs
 
 first-oracle-byte-requires : tie.Need-first-oracle-byte-requires
+unfolding statesBefore
 first-oracle-byte-requires c κs = let s = c .before .before .before in
     let p = s .args .plan .now in
     let h = laid-accepted p (s .pre) in
-    (h, omega (arith, range-lt p (firstOracle p) (counts-of p (accepted-plan p (s .pre) .counts) .first)))
+    (h, omega (arith, counts-of p (accepted-plan p (s .pre) .counts) .first<, h .states≤))
 
 returns : tie.Need-returns
 returns c = let p = c .before .before .before .before .args .plan .now in
@@ -34,7 +35,7 @@ returns c = let p = c .before .before .before .before .args .plan .now in
       locations = c .before .before .start-locations .ensures i;
       «last_ports» = no-ports p i;
       values = c .before .start-values .ensures i;
-      oracle = c .first-oracle-byte .ensures i;
+      oracles = c .first-oracle-byte .ensures i ∷ 0 ∷ 0 ∷ 0 ∷ [];
       marks = 0;
     }
 

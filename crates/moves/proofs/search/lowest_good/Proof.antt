@@ -17,12 +17,12 @@ use Rattle.moves.proofs.search.lowest_good.Tie as tie
 
 -- the moves passed end bad, and the state is in the arrays again
 abbrev Inv-loop : tie.InvT-loop
-Inv-loop plan locations ports values oracle chosen moves places₀ last₀ numbers₀ left₀ places last numbers left =
-    Walk moves (λ j. not (good plan (after plan (lent locations ports values oracle) j))) left
+Inv-loop plan locations ports values oracles chosen moves places₀ last₀ numbers₀ left₀ places last numbers left =
+    Walk moves (λ j. not (good plan (after plan (lent locations ports values oracles) j))) left
     × (site places last numbers ≡ site locations ports values)
 
 abbrev μ-loop : tie.MeasureT-loop
-μ-loop plan locations ports values oracle chosen moves places₀ last₀ numbers₀ left₀ places last numbers left = left
+μ-loop plan locations ports values oracles chosen moves places₀ last₀ numbers₀ left₀ places last numbers left = left
 
 word : (s : tie.Start Inv-loop μ-loop) → s .args .moves < 2 ^ 64
 word s = search needs
@@ -31,7 +31,7 @@ abbrev begun : tie.At-loop Inv-loop μ-loop → tie.Start Inv-loop μ-loop
 begun c = c .before .before
 
 abbrev held : tie.Start Inv-loop μ-loop → Configuration
-held s = lent (s .args .locations .now) (s .args .ports .now) (s .args .values .now) (s .args .oracle)
+held s = lent (s .args .locations .now) (s .args .ports .now) (s .args .values .now) (s .args .oracles)
 
 -- whether a move ends good
 abbrev ends : tie.Start Inv-loop μ-loop → ℕ → Bool
@@ -53,9 +53,9 @@ named c =
 
 -- a move made of what is in the arrays is made of the state
 same : (l : tie.At-loop Inv-loop μ-loop) (n : ℕ)
-    → after (begun l .args .plan .now) (lent (l .loop .places) (l .loop .last) (l .loop .numbers) (begun l .args .oracle)) n
+    → after (begun l .args .plan .now) (lent (l .loop .places) (l .loop .last) (l .loop .numbers) (begun l .args .oracles)) n
     ≡ after (begun l .args .plan .now) (held (begun l)) n
-same l n = ap (λ (x : State). after (begun l .args .plan .now) (record { state = x; oracle = begun l .args .oracle }) n) (l .loop .inv .1)
+same l n = ap (λ (x : State). after (begun l .args .plan .now) (record { state = x; oracles = begun l .args .oracles }) n) (l .loop .inv .1)
 
 -- whether it ends good, by what is tested
 judged : (c : tie.After-good2 Inv-loop μ-loop)
@@ -148,7 +148,7 @@ returns-2 c =
             ∙ walk-none (s .args .moves) (interactions (s .args .plan .now)) (ends s) (l .loop .left) (l .loop .inv .0) (omega arith),
         (
           λ q. absurd (not-below (c .interactions .ensures .0) q),
-          λ _. ap (λ (x : State). record { state = x; oracle = s .args .oracle }) (l .loop .inv .1),
+          λ _. ap (λ (x : State). record { state = x; oracles = s .args .oracles }) (l .loop .inv .1),
         ),
       ),
     )

@@ -14,13 +14,14 @@ use Rattle.oracle.proofs.rule.state_ok.Statement.{statement}
 use Rattle.oracle.proofs.rule.state_ok.Tie as tie
 
 abbrev Inv-loop : tie.InvT-loop
-Inv-loop plan q row v count a₀ a = (a ≤ letters plan) × (every a (λ k. followerOk plan q (next plan q k)) ≡ true)
+Inv-loop plan n first states q row v count a₀ a = (a ≤ letters plan) × (every a (λ k. followerOk plan n q (next plan n q k)) ≡ true)
 
 abbrev μ-loop : tie.MeasureT-loop
-μ-loop plan q row v count a₀ a = count - a
+μ-loop plan n first states q row v count a₀ a = count - a
 
 -- the test of the verdict is the rule's
-judged : (c : tie.After-verdict-ok Inv-loop μ-loop) → verdictOk (verdict (c .before .before .before .before .args .plan .now) (c .before .before .before .before .args .q)) ≡ c .verdict-ok .result
+judged : (c : tie.After-verdict-ok Inv-loop μ-loop) → let a = c .before .before .before .before .args in
+    verdictOk (verdict (a .plan .now) (a .n) (a .q)) ≡ c .verdict-ok .result
 judged c = ap verdictOk (sym (c .before .verdict-in .ensures)) ∙ sym (c .verdict-ok .ensures)
 
 -- the test of a next state is the rule's
@@ -28,14 +29,14 @@ follower :
     (c : tie.After-follower-ok Inv-loop μ-loop) →
     let l = c .before .before .before .before in
     let a = l .before .before .before .before .before .before .before .args in
-    followerOk (a .plan .now) (a .q) (next (a .plan .now) (a .q) (l .loop .a)) ≡ c .follower-ok .result
+    followerOk (a .plan .now) (a .n) (a .q) (next (a .plan .now) (a .n) (a .q) (l .loop .a)) ≡ c .follower-ok .result
 follower c =
     let l = c .before .before .before .before in
     let a = l .before .before .before .before .before .before .before .args in
-    sym (c .follower-ok .ensures ∙ ap (followerOk (a .plan .now) (a .q)) (c .before .wide .ensures .0 ∙ c .before .before .next-in .ensures))
+    sym (c .follower-ok .ensures ∙ ap (followerOk (a .plan .now) (a .n) (a .q)) (c .before .wide .ensures .0 ∙ c .before .before .next-in .ensures))
 
-oracle-at-requires : tie.Need-oracle-at-requires Inv-loop μ-loop
-oracle-at-requires c κs = search needs
+row-of-requires : tie.Need-row-of-requires Inv-loop μ-loop
+row-of-requires c κs = search needs
 
 verdict-in-requires : tie.Need-verdict-in-requires Inv-loop μ-loop
 verdict-in-requires c κs = search needs
@@ -64,7 +65,7 @@ follower-ok-requires : tie.Need-follower-ok-requires Inv-loop μ-loop
 follower-ok-requires c κs =
     let kept = c .before .before .before .before .before in
     let s = kept .before .before .before .before .before in
-    (s .pre .0, kept .before .before .verdict-in .ensures, sym (kept .before .verdict-ok .ensures) ∙ not-false _ (kept .if1 .left))
+    ((s .pre .0, s .pre .1, s .pre .2, s .pre .3), (kept .before .before .verdict-in .ensures, sym (kept .before .verdict-ok .ensures) ∙ not-false _ (kept .if1 .left)))
 
 returns-2 : tie.Need-returns-2 Inv-loop μ-loop
 unfolding oracleOk
@@ -98,7 +99,7 @@ state-ok-spec =
     (tie.spec
     Inv-loop
     μ-loop
-    oracle-at-requires
+    row-of-requires
     verdict-in-requires
     verdict-ok-requires
     returns

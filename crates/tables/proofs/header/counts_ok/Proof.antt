@@ -5,9 +5,6 @@ use Rattle.words.proofs.TestLaws.{tests}
 use Rattle.tables.proofs.header.counts_ok.Statement.{statement}
 use Rattle.tables.proofs.header.counts_ok.Tie as tie
 
-oracle-states-requires : tie.Need-oracle-states-requires
-oracle-states-requires c κs = search needs
-
 components-requires : tie.Need-components-requires
 components-requires c κs = search needs
 
@@ -29,11 +26,14 @@ ranged-requires-2 c κs = search needs
 propositions-requires : tie.Need-propositions-requires
 propositions-requires c κs = search needs
 
-ranged-requires-3 : tie.Need-ranged-requires-3
-ranged-requires-3 c κs = search needs
+oracle-counts-ok-requires : tie.Need-oracle-counts-ok-requires
+oracle-counts-ok-requires c κs = search needs
 
 first-oracle-requires : tie.Need-first-oracle-requires
 first-oracle-requires c κs = search needs
+
+oracle-states-requires : tie.Need-oracle-states-requires
+oracle-states-requires c κs = search needs
 
 code-words-requires : tie.Need-code-words-requires
 code-words-requires c κs = search needs
@@ -46,7 +46,6 @@ pub counts-ok-spec : {M : Type 1} → statement M
 counts-ok-spec =
     tie.close
     (tie.spec
-    oracle-states-requires
     components-requires
     ranged-requires
     variables-requires
@@ -54,7 +53,8 @@ counts-ok-spec =
     interactions-requires
     ranged-requires-2
     propositions-requires
-    ranged-requires-3
+    oracle-counts-ok-requires
     first-oracle-requires
+    oracle-states-requires
     code-words-requires
     returns)

@@ -16,7 +16,7 @@ use Rattle.tables.proofs.header.layout_ok.Statement.{statement}
 use Rattle.tables.proofs.header.layout_ok.Tie as tie
 
 abbrev Inv-loop : tie.InvT-loop
-Inv-loop plan at₀ n₀ at n = (n ≤ 8) × (at ≡ sectionStart plan n) × (at ≤ 48 + 2000000 * n) × (every n (λ k. eqb (section plan k) (sectionStart plan k)) ≡ true)
+Inv-loop plan at₀ n₀ at n = (n ≤ 8) × (at ≡ sectionStart plan n) × (at ≤ 48 + 5000000 * n) × (every n (λ k. eqb (section plan k) (sectionStart plan k)) ≡ true)
 
 abbrev μ-loop : tie.MeasureT-loop
 μ-loop plan at₀ n₀ at n = 8 - n

@@ -9,18 +9,6 @@ reserved-byte-requires c κs = search needs
 reserved-byte-requires-2 : tie.Need-reserved-byte-requires-2
 reserved-byte-requires-2 c κs = search needs
 
-reserved-byte-requires-3 : tie.Need-reserved-byte-requires-3
-reserved-byte-requires-3 c κs = search needs
-
-reserved-byte-requires-4 : tie.Need-reserved-byte-requires-4
-reserved-byte-requires-4 c κs = search needs
-
-reserved-byte-requires-5 : tie.Need-reserved-byte-requires-5
-reserved-byte-requires-5 c κs = search needs
-
-reserved-byte-requires-6 : tie.Need-reserved-byte-requires-6
-reserved-byte-requires-6 c κs = search needs
-
 returns : tie.Need-returns
 unfolding every
 returns c = cc
@@ -31,8 +19,4 @@ reserved-zero-spec =
     (tie.spec
     reserved-byte-requires
     reserved-byte-requires-2
-    reserved-byte-requires-3
-    reserved-byte-requires-4
-    reserved-byte-requires-5
-    reserved-byte-requires-6
     returns)

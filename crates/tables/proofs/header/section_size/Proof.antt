@@ -8,9 +8,9 @@ use Rattle.words.proofs.MatchRest.{past}
 use Rattle.tables.proofs.header.section_size.Statement.{statement}
 use Rattle.tables.proofs.header.section_size.Tie as tie
 
--- the rows of the oracle, before its states are known to be few
-rows-le : {width states : ℕ} → width ≤ 16 → states < 65536 → (1 + width) * states ≤ 1114112
-rows-le {width} {states} h l = mul-le-mul {n₁ = 1 + width} {m₁ = states} {n₂ = 17} {m₂ = 65536} (omega arith) (le-of-lt l)
+-- the rows of the oracles, before their states are known to be few
+rows-le : {width states : ℕ} → width ≤ 16 → states < 262144 → (1 + width) * states ≤ 4456448
+rows-le {width} {states} h l = mul-le-mul {n₁ = 1 + width} {m₁ = states} {n₂ = 17} {m₂ = 262144} (omega arith) (le-of-lt l)
 
 components-requires : tie.Need-components-requires
 components-requires c κs = search needs
@@ -54,11 +54,11 @@ letters-requires c κs = search needs
 add-result : tie.Need-add-result
 add-result c = search needs
 
-oracle-states-requires : tie.Need-oracle-states-requires
-oracle-states-requires c κs = search needs
+all-states-requires : tie.Need-all-states-requires
+all-states-requires c κs = search needs
 
 mul-result-7 : tie.Need-mul-result-7
-mul-result-7 c = omega (arith, rows-le (c .before .letters .ensures .1) (c .oracle-states .ensures .1))
+mul-result-7 c = omega (arith, rows-le (c .before .letters .ensures .1) (c .all-states .ensures .1))
 
 code-words-requires : tie.Need-code-words-requires
 code-words-requires c κs = search needs
@@ -94,7 +94,7 @@ returns-7 : tie.Need-returns-7
 unfolding sectionSize
 returns-7 c =
     let (count, few) = c .before .letters .ensures in
-    let (states, low) = c .oracle-states .ensures in
+    let (states, low) = c .all-states .ensures in
     (rw (c .before .before .match .keys7, count, states) refl, omega (arith, rows-le few low))
 
 returns-8 : tie.Need-returns-8
@@ -122,7 +122,7 @@ section-size-spec =
     mul-result-6
     letters-requires
     add-result
-    oracle-states-requires
+    all-states-requires
     mul-result-7
     code-words-requires
     mul-result-8

@@ -1,0 +1,32 @@
+//! Compares every call of libyard.a with that of an older build as well, whose calls are named old_; with --old on plans without added oracles alone.
+
+use std::process::ExitCode;
+
+use compare::checked::Comparer;
+use compare::command;
+use compare::engines::Engine;
+
+mod old {
+    yard::engine!(
+        "old_check",
+        "old_start",
+        "old_offered",
+        "old_offered_bits",
+        "old_try",
+        "old_settle"
+    );
+}
+
+const OLD: Engine = Engine {
+    name: "old library",
+    check: old::check,
+    start: old::start,
+    offered: old::offered,
+    bits: old::offered_bits,
+    attempt: old::attempt,
+    settle: old::settle,
+};
+
+fn main() -> ExitCode {
+    command::run("same", |seed| Comparer::new(seed).and(OLD))
+}
