@@ -30,7 +30,7 @@ pub fn next_in(plan: &[u8], row: usize, n: usize, q: usize, a: usize) -> u8
     plan[row + (NEXT + a)]
 }
 
-// The place of the row of state q of oracle n, whose rows begin with a row.
+// The place of the row of state q of oracle n, whose first row has the number `first`.
 pub fn row_of(plan: &[u8], n: usize, first: usize, q: usize) -> usize
     requires { ⌜ Laid (now plan) × (n < maxOracles) × (q < oracleStates (now plan) n) × (first ≡ statesBefore (now plan) n) ⌝ }
     ensures { λ r. ⌜ r ≡ oracleAt (now (plan .entry)) n q ⌝ }

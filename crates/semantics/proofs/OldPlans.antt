@@ -1,6 +1,6 @@
 -- "Old plans and images mean what they meant" (02, job 1), the plan and the move: where a plan's bytes 42 to 45 are zero, each definition that moved
 -- equals its old form. OldMeaning has the old forms; OldImages goes on to the image and the calls.
-use mathlib.Core.Path.{_≡_, refl, ap₂}
+use mathlib.Core.Path.{_≡_, refl, ap, ap₂, _∙_}
 use Prim.Native.Nat.{ℕ, zero, suc, _+_, _<_}
 use native.Mathlib.Nat.{zero-add}
 use native.Mathlib.Omega.{arith}
@@ -8,7 +8,7 @@ use mathlib.Core.Bool.{true, and-true}
 use mathlib.Core.List.{List, [], _∷_, _++_}
 use lib.ListN.{length, getD}
 use lib.Dec.{eqb}
-use Rattle.semantics.specs.Bytes.{byte, leBytes, allOf, every, lowest, table}
+use Rattle.semantics.specs.Bytes.{byte, leBytes, allOf, every, lowest}
 use Rattle.semantics.specs.Plan.{Plan, maxOracles, totalLength, interactions, addedOracles, oracleStates, letters, section, statesBefore, sectionSize, sectionStart, verdict, next}
 use Rattle.semantics.specs.Code.{State}
 use Rattle.semantics.specs.Refusal.{Rule, unless, refusal}
@@ -17,6 +17,7 @@ use Rattle.semantics.specs.Move.{Configuration, fired, letter, nextState
 use Rattle.semantics.specs.Sample.{joined, places, sections, counts, offsets, written, scale, sample}
 use Rattle.semantics.proofs.Basics.{eqb-true, every-at}
 use Rattle.semantics.proofs.OldMeaning as old
+use Rattle.semantics.proofs.Oracles.{first-reads}
 
 -- A plan that carries no added oracle: bytes 42 to 45 are zero.
 pub record OldPlan (p : Plan) : Type 0 where
@@ -134,8 +135,7 @@ old-now c = refl
 module _ (p : Plan) (o : OldPlan p) where
   -- The oracles' states after a letter: the first one's next state, and 0 in the unused places.
   pub same-nextStates : (qs : List ℕ) (a : ℕ) → nextStates p qs a ≡ old.next p (getD qs 0 0) a ∷ 0 ∷ 0 ∷ 0 ∷ []
-  unfolding nextStates table
-  same-nextStates qs a = rw (none-added p o, same-next p (getD qs 0 0) a)
+  same-nextStates qs a = first-reads p qs a (none-added p o) ∙ ap (λ (q : ℕ). q ∷ 0 ∷ 0 ∷ 0 ∷ []) (same-next p (getD qs 0 0) a)
 
   -- A state judged, the first oracle in the first of the states qs: q where qs is q ∷ 0 ∷ 0 ∷ 0 ∷ [].
   pub same-judged : (qs : List ℕ) (s : State) → judged p qs s ≡ asNow (old.judged p (getD qs 0 0) s)

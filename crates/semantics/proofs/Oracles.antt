@@ -12,7 +12,7 @@ use Rattle.semantics.specs.Plan.{Plan, maxOracles, firstOracle, addedOra
 use Rattle.semantics.specs.Rules.{within, stateCountOk, oracleCountsOk, followerOk, oracleOk, planRules}
 use Rattle.semantics.specs.Move.{nextStates, stateInRange, oraclesInRange, lowestVerdict, oraclesGood}
 use Rattle.semantics.specs.Image.{Image, head, oracleByte, headMatches}
-use Rattle.semantics.proofs.Basics.{bool-cases, absurd-bool, not-yes, or-left, or-no, same-test, each, all-of, leb-true, le-leb, ltb-true, ltb-false, lt-ltb, le-ltb, eqb-true, eq-eqb, ne-eqb, eqb-false, every-at, every-all, every-same, below-suc, length-table, getD-table, zeros-at}
+use Rattle.semantics.proofs.Basics.{bool-cases, absurd-bool, not-yes, or-left, or-right, or-no, same-test, each, all-of, leb-true, le-leb, ltb-true, ltb-false, lt-ltb, le-ltb, eqb-true, eq-eqb, ne-eqb, eqb-false, every-at, every-all, every-same, below-suc, length-table, getD-table, zeros-at}
 use Rattle.semantics.proofs.RuleLists.{numbers}
 use Rattle.semantics.proofs.AcceptedPlan.{Accepted, Counts, counts-of}
 
@@ -77,10 +77,12 @@ first-count-decides p e =
     unused : addedOracles p ≡ 0 → (k : ℕ) → byte p (43 + k) ≡ 0 → stateCountOk p (suc k) ≡ true
     unused none k z = unused-count p (suc k) (omega (arith, none)) ∙ (unfold oracleStates in eq-eqb (byte p (43 + k)) 0 z)
 
+-- where all are in range, each is
 pub range-at : (p : Plan) (qs : List ℕ) → oraclesInRange p qs ≡ true → (n : ℕ) → n < maxOracles → stateInRange p n (getD qs n 0) ≡ true
 unfolding oraclesInRange
 range-at p qs e = every-at maxOracles (λ n. stateInRange p n (getD qs n 0)) e
 
+-- and the state of an oracle of the plan is below its count
 pub range-lt : (p : Plan) (n q : ℕ) → n < oracles p → stateInRange p n q ≡ true → q < oracleStates p n
 range-lt p n q h e = ltb-true q (oracleStates p n) (sym (used-in-range p n q h) ∙ e)
 
@@ -112,6 +114,7 @@ added-decide p qs e = rw e refl
 
 -- ---- all oracles read a letter
 
+-- four states again
 pub length-next-states : (p : Plan) (qs : List ℕ) (a : ℕ) → length (nextStates p qs a) ≡ maxOracles
 unfolding nextStates
 length-next-states p qs a = length-table maxOracles (λ n. cond (ltb n (oracles p)) (next p n (getD qs n 0) a) 0)
@@ -133,6 +136,7 @@ pub first-reads : (p : Plan) (qs : List ℕ) (a : ℕ) → addedOracles p ≡ 0 
 unfolding nextStates table
 first-reads p qs a e = rw e refl
 
+-- on an accepted plan a state in range leads to one in range
 pub next-in-range : (p : Plan) → Accepted p → (n : ℕ) → n < oracles p → (q a : ℕ) → stateInRange p n q ≡ true → a < letters p
     → stateInRange p n (next p n q a) ≡ true
 unfolding oracleOk followerOk
@@ -141,6 +145,7 @@ next-in-range p h n l q a e m =
     let (low, _) = each _ (every-at (letters p) (λ b. followerOk p n q (next p n q b)) followers a m) in
     used-in-range p n (next p n q a) l ∙ low
 
+-- so all that are in range lead to states in range
 pub next-states-in-range : (p : Plan) → Accepted p → (qs : List ℕ) (a : ℕ) → oraclesInRange p qs ≡ true → a < letters p
     → oraclesInRange p (nextStates p qs a) ≡ true
 next-states-in-range p h qs a e m = unfold oraclesInRange in every-all maxOracles (λ n. stateInRange p n (getD (nextStates p qs a) n 0)) each-in
@@ -161,12 +166,7 @@ added-begin-at-0 p k = zeros-at 3 k
 
 -- state 0 is one of every oracle's, and stands where there is none
 pub zero-in-range : (p : Plan) (n : ℕ) → stateCountOk p n ≡ true → stateInRange p n 0 ≡ true
-unfolding within
-zero-in-range p n e =
-    bool-cases (ltb n (oracles p))
-    (λ t. let u = ltb-true n (oracles p) t in
-    used-in-range p n 0 u ∙ lt-ltb 0 (oracleStates p n) (leb-true 1 (oracleStates p n) (each _ (sym (used-count p n u) ∙ e) .0)))
-    (λ t. unused-in-range p n 0 (ltb-false n (oracles p) t))
+zero-in-range p n e = in-range-by-count p n 0 e ∙ or-right (ltb 0 (oracleStates p n)) (eqb 0 0) refl
 
 pub start-in-range : (p : Plan) → Accepted p → oraclesInRange p (startStates p) ≡ true
 unfolding oraclesInRange
