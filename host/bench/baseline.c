@@ -210,6 +210,16 @@ static unsigned check(Plan *x, const uint8_t *p, size_t len) {
 
 /* ---- code ---- */
 
+#ifndef WRAPS
+#define WRAPS 0 /* 1 plants a fault, for host/compare to find: sums that wrap */
+#endif
+
+/* An exact result, held at the ends of signed 32 bits. Without a branch this is no slower than a sum that wraps. */
+static inline int32_t held(int64_t exact) {
+  int32_t low = (int32_t)exact, end = (int32_t)(exact >> 63) ^ INT32_MAX;
+  return WRAPS || low == exact ? low : end;
+}
+
 /* Runs a span that passed the check. Answers the value left on the stack (guards and propositions). */
 static int32_t run(const Plan *x, const uint8_t *rec, Lane *lane) {
   int32_t st[9], top = 0, *sp = st; /* the top lies beside the stack; st[0] is no value */
@@ -219,13 +229,13 @@ static int32_t run(const Plan *x, const uint8_t *rec, Lane *lane) {
     if (op == 6) op += n;
     switch (op) {
     case 0: *sp++ = top; top = (int32_t)n; break;
-    case 1: top = (int32_t)((uint32_t)top * 4096u + n); break;
+    case 1: top = held((int64_t)top * 4096 + n); break;
     case 2: *sp++ = top; top = lane->val[n]; break;
     case 3: lane->val[n] = top; top = *--sp; break;
     case 4: *sp++ = top; top = lane->loc[n >> 8] == (n & 255); break;
     case 5: *sp++ = top; top = lane->last[n >> 8] == (n & 255); break;
-    case 6: top = (int32_t)((uint32_t)*--sp + (uint32_t)top); break;
-    case 7: top = (int32_t)((uint32_t)*--sp - (uint32_t)top); break;
+    case 6: top = held((int64_t)*--sp + top); break;
+    case 7: top = held((int64_t)*--sp - top); break;
     case 8: top = *--sp == top; break;
     case 9: top = *--sp >= top; break;
     case 10: sp--; top = (*sp != 0) & (top != 0); break;

@@ -1,18 +1,21 @@
-// Makes libbaseline.a of host/bench's C engine, and links it; links the older library's object, $OLD_OBJECT, into `same`.
+// Makes libbaseline.a of host/bench's C engine, with a copy whose sums wrap for the tests, and links it; links the older library's object, $OLD_OBJECT,
+// into `same`.
 use std::env;
 use std::path::{Path, PathBuf};
 use std::process::Command;
 
+const CALLS: [&str; 6] = ["check", "start", "offered", "offered_bits", "try", "settle"];
+
 fn main() {
     let bench = Path::new(&env::var("CARGO_MANIFEST_DIR").unwrap()).join("../bench");
     let out = PathBuf::from(env::var("OUT_DIR").unwrap());
-    let (object, library) = (out.join("baseline.o"), out.join("libbaseline.a"));
-    let flags = ["-O3", "-fPIC", "-Wall", "-Wextra", "-Werror", "-c", "-o"];
-    run(Command::new("gcc")
-        .args(flags)
-        .arg(&object)
-        .arg(bench.join("baseline.c")));
-    run(Command::new("ar").arg("rcs").arg(&library).arg(&object));
+    let source = bench.join("baseline.c");
+    let objects = [out.join("baseline.o"), out.join("wrapping.o")];
+    let renamed = CALLS.map(|call| format!("-Dbase_{call}=wrapping_{call}"));
+    run(&mut gcc(&source, &objects[0]));
+    run(gcc(&source, &objects[1]).arg("-DWRAPS=1").args(renamed));
+    let library = out.join("libbaseline.a");
+    run(Command::new("ar").arg("rcs").arg(library).args(&objects));
     for file in ["baseline.c", "baseline.h"] {
         println!("cargo:rerun-if-changed={}", bench.join(file).display());
     }
@@ -23,6 +26,14 @@ fn main() {
         println!("cargo:rerun-if-changed={object}");
         println!("cargo:rustc-link-arg-bin=same={object}");
     }
+}
+
+fn gcc(source: &Path, object: &Path) -> Command {
+    let mut gcc = Command::new("gcc");
+    gcc.args(["-O3", "-fPIC", "-Wall", "-Wextra", "-Werror", "-c", "-o"])
+        .arg(object)
+        .arg(source);
+    gcc
 }
 
 fn run(command: &mut Command) {

@@ -13,20 +13,13 @@ pub fn from_bits(u: u32) -> i32
     }
 }
 
-// The low 32 bits of a number.
-pub fn low_bits(s: i64) -> u32
-    ensures { λ r. ⌜ r ≡ residue s ⌝ }
-{
-    if s < 0 {
-        0xffff_ffff - (!s as u64 % 0x1_0000_0000) as u32
-    } else {
-        (s as u64 % 0x1_0000_0000) as u32
-    }
-}
-
 // The 32 bits that store a number.
 pub fn to_bits(v: i32) -> u32
     ensures { λ r. ⌜ r ≡ residue v ⌝ }
 {
-    low_bits(v as i64)
+    if v < 0 {
+        0xffff_ffff - !v as u32
+    } else {
+        v as u32
+    }
 }

@@ -10,8 +10,8 @@ use lib.ListN.{length, getD, List·getD-eq-default}
 use lib.Seq.{ext-getD}
 use lib.Dec.{ltb, eqb}
 use lib.IntN.{ℤ, pos}
+use lib.Signed.{mag}
 use Rattle.semantics.specs.Bytes.{allOf}
-use Rattle.semantics.specs.Signed.{wrap}
 use Rattle.semantics.specs.Plan.{Plan, maxOracles, components, variables, locations, ports, owner, takesPart}
 use Rattle.semantics.specs.Code.{State, ownedBy, sharedIn}
 use Rattle.semantics.specs.Rules.{variableOk, planRefusal}
@@ -21,7 +21,6 @@ use Rattle.bip.specs.Steps.{Local, restrictedTo, variableOf, restricted,
 use Rattle.semantics.proofs.Basics.{bool-cases, and-both, both-and, or-cases, or-left, or-right, each, ltb-true, ltb-false, lt-ltb, le-ltb, eqb-true, eqb-same, eq-eqb, length-table, getD-table}
 use Rattle.semantics.proofs.AcceptedPlan.{accepted-plan, Counts, counts-of}
 use Rattle.semantics.proofs.Commute.{Agree, one-owner}
-use Rattle.semantics.proofs.Evaluator.{low-word}
 use Rattle.semantics.proofs.Sound.{Sound}
 
 -- the counts of an accepted plan
@@ -178,7 +177,7 @@ sound-of p q θ h four l =
                   word-at =
                       λ v.
                       bool-cases (ltb v (variables p)) (λ e. h .value v (ltb-true _ _ e))
-                      (λ e. subst (λ (x : ℤ). wrap x ≡ x) (sym (h .no-value v (ltb-false _ _ e))) (low-word 0 (omega arith)));
+                      (λ e. subst (λ (x : ℤ). mag x < 2147483648) (sym (h .no-value v (ltb-false _ _ e))) (omega arith));
                 };
             unused = h .no-value;
           };

@@ -8,8 +8,8 @@ use lib.Dec.{ltb, eqb}
 use mathlib.Core.List.{List, [], _∷_}
 use lib.ListN.{length, getD}
 use lib.IntN.{ℤ, pos}
+use lib.Signed.{mag}
 use Rattle.semantics.specs.Bytes.{table}
-use Rattle.semantics.specs.Signed.{wrap}
 use Rattle.semantics.specs.Plan.{Plan, maxComponents, maxVariables, noPort, components, variables, transitions, interactions, locations, ports, startLocation, owner, startValue, componentOf, source, portOf, destination, guardOf, actionOf, portIn, takesPart, interactionGuard, transferOf, below}
 use Rattle.semantics.specs.Code.{State, valued, guardHolds, acted}
 
@@ -59,15 +59,15 @@ pub data Atomic (p : Plan) (c port : ℕ) (q : Local) (received : List ℤ) (q' 
 unfoldable pub component : Plan → State → ℕ → Local
 component p s c = record { location = getD (s .locations) c 0; valuation = restricted p c (s .values); lastPort = getD (s .lastPorts) c 0 }
 
--- Q = B_1.Q × .. × B_n.Q, with Data the signed 32-bit numbers. Places of the lists that belong to no component or variable hold 0, and 255 for a
--- last port, as an image has them.
+-- Q = B_1.Q × .. × B_n.Q, with Data the signed 32-bit numbers: `mag` is n both for n and for -(n + 1). Places of the lists that belong to no component
+-- or variable hold 0, and 255 for a last port, as an image has them.
 pub record Q (p : Plan) (s : State) : Type 0 where
   pub locations-long : length (s .locations) ≡ maxComponents
   pub ports-long : length (s .lastPorts) ≡ maxComponents
   pub values-long : length (s .values) ≡ maxVariables
   pub location : (c : ℕ) → c < components p → getD (s .locations) c 0 < locations p c
   pub port : (c : ℕ) → c < components p → (getD (s .lastPorts) c 0 ≡ noPort) ⊎ (getD (s .lastPorts) c 0 < ports p c)
-  pub value : (v : ℕ) → v < variables p → wrap (getD (s .values) v (pos 0)) ≡ getD (s .values) v (pos 0)
+  pub value : (v : ℕ) → v < variables p → mag (getD (s .values) v (pos 0)) < 2147483648
   pub no-location : (c : ℕ) → components p ≤ c → c < maxComponents → getD (s .locations) c 0 ≡ 0
   pub no-port : (c : ℕ) → components p ≤ c → c < maxComponents → getD (s .lastPorts) c 0 ≡ noPort
   pub no-value : (v : ℕ) → variables p ≤ v → getD (s .values) v (pos 0) ≡ pos 0

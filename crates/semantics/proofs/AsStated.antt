@@ -1,7 +1,9 @@
--- What 01 says, sentence by sentence: its cases, one move, the ranking, the rules of code, one call and the book's turn; and what 02, job 1, says of more
--- oracles. The checker takes the modules by name, each behind those that it uses, so a definition that is changed is refused first by one of these facts,
--- before the proofs that build on them.
+-- What 01 says, sentence by sentence: its cases, one move, the ranking, the rules of code, one call and the book's turn; and what 02 says of more oracles
+-- (job 1) and of the ends of signed 32 bits (job 2). The checker takes the modules by name, each behind those that it uses, so a definition that is changed
+-- is refused first by one of these facts, before the proofs that build on them.
 pub use Rattle.semantics.proofs.CasesHold.{cases-hold}
+pub use Rattle.semantics.proofs.EndsHold.{ends-hold}
+pub use Rattle.semantics.proofs.Saturation.{between-ends, saturate-inside, saturate-above, saturate-below, saturate-idempotent, saturate-monotone}
 pub use Rattle.semantics.proofs.OneMove.{Uses, uses, uses-lowest, values-after, part-moves, other-stays, new-state-judged, start-judged}
 pub use Rattle.semantics.proofs.Oracles.{tables-follow, tested-in-order, not-under-12, used-in-range, unused-in-range, added-begin-at-0, lowest-at-most, lowest-of-some, good-exactly}
 pub use Rattle.semantics.proofs.Ranking.{outranked-exactly, safe-commits, safe-lowest, safe-none}

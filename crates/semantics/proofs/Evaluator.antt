@@ -1,122 +1,72 @@
 -- The evaluator stays inside its room: in a span that keeps the rules the stack is never deeper than 8, no word lacks what it pops,
 -- and every value, on the stack and in the variables, is a signed 32-bit number.
-use mathlib.Core.Path.{_≡_, sym, ap, _∙_, subst}
-use Prim.Native.Nat.{ℕ, zero, suc, _+_, _-_, _/_, _%_, _≤_, _<_}
+use mathlib.Core.Path.{_≡_, sym, _∙_, subst}
+use Prim.Native.Nat.{ℕ, zero, suc, _+_, _/_, _%_, _≤_, _<_}
 use native.Mathlib.Omega.{arith}
-use mathlib.Core.Bool.{Bool, true, false, cond}
+use mathlib.Core.Bool.{Bool, true}
 use mathlib.Core.List.{List, [], _∷_}
 use lib.ListN.{length, getD, set, drop}
 use lib.Seq.{getD-drop}
-use lib.Dec.{ltb}
-use lib.IntN.{ℤ, pos, negsuc}
+use lib.IntN.{ℤ, pos}
+use lib.Signed.{mag}
 use Rattle.semantics.specs.Plan.{Plan, Span, maxVariables, variables, transitions, interactions, propositions, guardOf, actionOf, interactionGuard, transferOf, propositionOf, componentOf, word}
-use Rattle.semantics.specs.Signed.{signed, residue, wrap, add, subtract, extend, truth}
+use Rattle.semantics.specs.Signed.{add, subtract, extend}
 use Rattle.semantics.specs.Code.{State, Instruction, push, extendTop, load, store, located, lastPort, operator, unknown, instruction, decode, operate, operatorPops, Machine, perform, ran, acted, Role, asGuard, asUpdate, asProposition, ownedBy, sharedIn, declared, pops, finalDepth, spanOk}
 use Rattle.semantics.specs.Rules.{planRefusal}
-use Rattle.semantics.proofs.Basics.{bool-cases, ltb-true, ltb-false, lt-ltb, le-ltb}
+use Rattle.semantics.proofs.Basics.{bool-cases}
 use Rattle.semantics.proofs.AcceptedPlan.{accepted-plan, guard-ok, action-ok, interaction-guard-ok, transfer-ok, proposition-ok}
+use Rattle.semantics.proofs.Saturation.{saturate-in}
+use Rattle.semantics.proofs.SignedBits.{truth-in}
 use Rattle.semantics.proofs.Spans.{word-step, depth-before, depth-low, ran-depth, span-end, span-depth, span-step, frame, acted-long}
-
--- ---- signed 32-bit numbers
-
--- what 32 bits denote, in the two halves
-signed-low : (u : ℕ) → u < 2147483648 → signed u ≡ pos u
-unfolding signed
-signed-low u h = ap (λ (b : Bool). cond b (pos u) (negsuc (4294967296 - suc u))) (lt-ltb u 2147483648 h)
-
-signed-high : (u : ℕ) → 2147483648 ≤ u → signed u ≡ negsuc (4294967296 - suc u)
-unfolding signed
-signed-high u h = ap (λ (b : Bool). cond b (pos u) (negsuc (4294967296 - suc u))) (le-ltb u 2147483648 h)
-
--- a number below 2 ^ 31 is a signed 32-bit number
-pub low-word : (n : ℕ) → n < 2147483648 → wrap (pos n) ≡ pos n
-unfolding wrap residue
-low-word n h = let e : n % 4294967296 ≡ n = omega arith in ap (λ (x : ℕ). signed x) e ∙ signed-low n h
-
--- so is -(n + 1), for such an n
-pub high-word : (n : ℕ) → n < 2147483648 → wrap (negsuc n) ≡ negsuc n
-unfolding wrap residue
-high-word n h =
-    let a : 2147483648 ≤ 4294967295 - n % 4294967296 = omega arith in
-    let e : 4294967296 - suc (4294967295 - n % 4294967296) ≡ n = omega arith in
-    signed-high (4294967295 - n % 4294967296) a ∙ ap negsuc e
-
--- what 32 bits denote is a signed 32-bit number
-pub signed-word : (u : ℕ) → wrap (signed u) ≡ signed u
-signed-word u = bool-cases (ltb u 2147483648) low high
-  where
-    low : ltb u 2147483648 ≡ true → wrap (signed u) ≡ signed u
-    low e =
-        let h : u < 2147483648 = ltb-true u 2147483648 e in
-        subst (λ (z : ℤ). wrap z ≡ z) (sym (signed-low u h)) (low-word u h)
-
-    high : ltb u 2147483648 ≡ false → wrap (signed u) ≡ signed u
-    high e =
-        let h : 2147483648 ≤ u = ltb-false u 2147483648 e in
-        subst (λ (z : ℤ). wrap z ≡ z) (sym (signed-high u h)) (high-word (4294967296 - suc u) (below u h))
-      where
-        below : (u : ℕ) → 2147483648 ≤ u → 4294967296 - suc u < 2147483648
-        below u h = omega arith
-
--- what wraps into 32 bits stays there
-pub wrap-word : (z : ℤ) → wrap (wrap z) ≡ wrap z
-unfolding wrap
-wrap-word z = signed-word (residue z)
-
--- the result of a test is a signed 32-bit number
-truth-word : (b : Bool) → wrap (truth b) ≡ truth b
-unfolding truth
-truth-word true = low-word 1 (omega arith)
-truth-word false = low-word 0 (omega arith)
 
 -- ---- lists of signed 32-bit numbers
 
 -- each number of the list is a signed 32-bit number
 pub record Words (vs : List ℤ) : Type 0 where
-  pub word-at : (v : ℕ) → wrap (getD vs v (pos 0)) ≡ getD vs v (pos 0)
+  pub word-at : (v : ℕ) → mag (getD vs v (pos 0)) < 2147483648
 
 -- the empty list is one
 pub no-words : Words []
-no-words = record { word-at = λ v. low-word 0 (omega arith) }
+no-words = record { word-at = λ v. omega arith }
 
 -- a list of them with one more before it is one
-pub one-more-word : {x : ℤ} {xs : List ℤ} → wrap x ≡ x → Words xs → Words (x ∷ xs)
+pub one-more-word : {x : ℤ} {xs : List ℤ} → mag x < 2147483648 → Words xs → Words (x ∷ xs)
 one-more-word {x} {xs} e w = record { word-at = place }
   where
-    place : (v : ℕ) → wrap (getD (x ∷ xs) v (pos 0)) ≡ getD (x ∷ xs) v (pos 0)
+    place : (v : ℕ) → mag (getD (x ∷ xs) v (pos 0)) < 2147483648
     place zero = e
     place (suc v) = w .word-at v
 
 -- so is a list of them without its first n
 fewer-words : (n : ℕ) (xs : List ℤ) → Words xs → Words (drop n xs)
-fewer-words n xs w = record { word-at = λ v. subst (λ (z : ℤ). wrap z ≡ z) (sym (getD-drop n xs v (pos 0))) (w .word-at (n + v)) }
+fewer-words n xs w = record { word-at = λ v. subst (λ (z : ℤ). mag z < 2147483648) (sym (getD-drop n xs v (pos 0))) (w .word-at (n + v)) }
 
 -- and a list of them with one stored in it
-set-word : (xs : List ℤ) (n : ℕ) (x : ℤ) → ((v : ℕ) → wrap (getD xs v (pos 0)) ≡ getD xs v (pos 0)) → wrap x ≡ x
-    → (v : ℕ) → wrap (getD (set xs n x) v (pos 0)) ≡ getD (set xs n x) v (pos 0)
+set-word : (xs : List ℤ) (n : ℕ) (x : ℤ) → ((v : ℕ) → mag (getD xs v (pos 0)) < 2147483648) → mag x < 2147483648
+    → (v : ℕ) → mag (getD (set xs n x) v (pos 0)) < 2147483648
 set-word [] n x h e v = h v
 set-word (y ∷ ys) zero x h e zero = e
 set-word (y ∷ ys) zero x h e (suc v) = h (suc v)
 set-word (y ∷ ys) (suc n) x h e zero = h zero
 set-word (y ∷ ys) (suc n) x h e (suc v) = set-word ys n x (λ k. h (suc k)) e v
 
-set-words : (xs : List ℤ) (n : ℕ) (x : ℤ) → Words xs → wrap x ≡ x → Words (set xs n x)
+set-words : (xs : List ℤ) (n : ℕ) (x : ℤ) → Words xs → mag x < 2147483648 → Words (set xs n x)
 set-words xs n x w e = record { word-at = set-word xs n x (w .word-at) e }
 
 -- ---- one word of code
 
 -- every operator gives a signed 32-bit number
-pub operate-word : (n : ℕ) (left right : ℤ) → wrap (operate n left right) ≡ operate n left right
+operate-in : (n : ℕ) (left right : ℤ) → mag (operate n left right) < 2147483648
 unfolding operate add subtract
-operate-word zero l r = wrap-word _
-operate-word (suc zero) l r = wrap-word _
-operate-word (suc (suc zero)) l r = truth-word _
-operate-word (suc (suc (suc zero))) l r = truth-word _
-operate-word (suc (suc (suc (suc zero)))) l r = truth-word _
-operate-word (suc (suc (suc (suc (suc zero))))) l r = truth-word _
-operate-word (suc (suc (suc (suc (suc (suc zero)))))) l r = truth-word _
-operate-word (suc (suc (suc (suc (suc (suc (suc zero))))))) l r = truth-word _
-operate-word (suc (suc (suc (suc (suc (suc (suc (suc n)))))))) l r = low-word 0 (omega arith)
+operate-in zero l r = saturate-in _
+operate-in (suc zero) l r = saturate-in _
+operate-in (suc (suc zero)) l r = truth-in _
+operate-in (suc (suc (suc zero))) l r = truth-in _
+operate-in (suc (suc (suc (suc zero)))) l r = truth-in _
+operate-in (suc (suc (suc (suc (suc zero))))) l r = truth-in _
+operate-in (suc (suc (suc (suc (suc (suc zero)))))) l r = truth-in _
+operate-in (suc (suc (suc (suc (suc (suc (suc zero))))))) l r = truth-in _
+operate-in (suc (suc (suc (suc (suc (suc (suc (suc n)))))))) l r = omega arith
 
 -- what a word pushes as it stands is below 4096
 abbrev Small : Instruction → Type 0
@@ -155,15 +105,15 @@ record Sound (m : Machine) : Type 0 where
 -- every word of code keeps that
 perform-sound : (i : Instruction) → Small i → (s : State) (m : Machine) → Sound m → Sound (perform i s m)
 unfolding perform extend
-perform-sound (push n) h s m a = record { on-stack = one-more-word (low-word n (omega arith)) (a .on-stack); in-values = a .in-values }
-perform-sound (extendTop n) h s m a = record { on-stack = one-more-word (wrap-word _) (fewer-words 1 (m .stack) (a .on-stack)); in-values = a .in-values }
+perform-sound (push n) h s m a = record { on-stack = one-more-word (omega arith) (a .on-stack); in-values = a .in-values }
+perform-sound (extendTop n) h s m a = record { on-stack = one-more-word (saturate-in _) (fewer-words 1 (m .stack) (a .on-stack)); in-values = a .in-values }
 perform-sound (load n) h s m a = record { on-stack = one-more-word (a .in-values .word-at n) (a .on-stack); in-values = a .in-values }
 perform-sound (store n) h s m a =
     record { on-stack = fewer-words 1 (m .stack) (a .on-stack); in-values = set-words (m .values) n (getD (m .stack) 0 (pos 0)) (a .in-values) (a .on-stack .word-at 0) }
-perform-sound (located c l) h s m a = record { on-stack = one-more-word (truth-word _) (a .on-stack); in-values = a .in-values }
-perform-sound (lastPort c q) h s m a = record { on-stack = one-more-word (truth-word _) (a .on-stack); in-values = a .in-values }
+perform-sound (located c l) h s m a = record { on-stack = one-more-word (truth-in _) (a .on-stack); in-values = a .in-values }
+perform-sound (lastPort c q) h s m a = record { on-stack = one-more-word (truth-in _) (a .on-stack); in-values = a .in-values }
 perform-sound (operator n) h s m a =
-    record { on-stack = one-more-word (operate-word n _ _) (fewer-words (operatorPops n) (m .stack) (a .on-stack)); in-values = a .in-values }
+    record { on-stack = one-more-word (operate-in n _ _) (fewer-words (operatorPops n) (m .stack) (a .on-stack)); in-values = a .in-values }
 perform-sound unknown h s m a = a
 
 ran-sound : (p : Plan) (s : State) (k n : ℕ) → Words (s .values) → Sound (ran p s k n)

@@ -7,15 +7,16 @@ use mathlib.Core.Bool.{true}
 use mathlib.Core.List.{List, [], _∷_, _++_, append-assoc}
 use lib.ListN.{length, getD, take, drop, length-append}
 use lib.Seq.{take-at, drop-at, getD-append-add, ext-getD}
-use lib.IntN.{ℤ, pos, negsuc}
+use lib.IntN.{ℤ, pos}
 use Rattle.semantics.specs.Bytes.{byte, u32, u64, leBytes, allOf, every, table}
-use Rattle.semantics.specs.Signed.{signed, residue, wrap}
+use Rattle.semantics.specs.Signed.{signed, residue}
 use Rattle.semantics.specs.Plan.{Plan, maxComponents, maxVariables, maxOracles}
 use Rattle.semantics.specs.Move.{Configuration}
 use Rattle.semantics.specs.Image.{imageLength, head, valueBytes, image, withMarks, marksOf, configurationOf, oracleByte, headMatches}
 use Rattle.semantics.proofs.Basics.{length-table, getD-table, table-is, eqb-same}
 use Rattle.semantics.proofs.Masks.{length-leBytes, u32-back}
 use Rattle.semantics.proofs.Evaluator.{Words}
+use Rattle.semantics.proofs.SignedBits.{signed-residue, residue-lt}
 
 -- a configuration whose lists are as long as the image has room, each value a signed 32-bit number
 pub record Shaped (c : Configuration) : Type 0 where
@@ -27,11 +28,6 @@ pub record Shaped (c : Configuration) : Type 0 where
 
 -- ---- values
 
-pub residue-lt : (z : ℤ) → residue z < 4294967296
-unfolding residue
-residue-lt (pos n) = omega arith
-residue-lt (negsuc n) = omega arith
-
 byte-past : (xs ys : List ℕ) (n k : ℕ) → length xs ≡ n → byte (xs ++ ys) (n + k) ≡ byte ys k
 byte-past xs ys n k e = subst (λ (m : ℕ). byte (xs ++ ys) (m + k) ≡ byte ys k) e (getD-append-add xs ys k 0)
 
@@ -41,9 +37,9 @@ u32-past xs ys n k e =
     rw (add-assoc n k 1, add-assoc n k 2, add-assoc n k 3, byte-past xs ys n k e, byte-past xs ys n (k + 1) e, byte-past xs ys n (k + 2) e, byte-past xs ys n (k + 3) e)
 
 value-at : (vs : List ℤ) (v : ℕ) → Words vs → v < length vs → signed (u32 (valueBytes vs) (4 * v)) ≡ getD vs v (pos 0)
-unfolding valueBytes wrap
+unfolding valueBytes
 value-at [] v w h = absurd (not-suc-le-zero h)
-value-at (x ∷ xs) zero w h = ap signed (u32-back (residue x) (valueBytes xs) (residue-lt x)) ∙ w .word-at 0
+value-at (x ∷ xs) zero w h = ap signed (u32-back (residue x) (valueBytes xs) (residue-lt x)) ∙ signed-residue x (w .word-at 0)
 value-at (x ∷ xs) (suc v) w h =
     let e : 4 * suc v ≡ 4 + 4 * v = omega arith in
     ap (λ (k : ℕ). signed (u32 (leBytes 4 (residue x) ++ valueBytes xs) k)) e

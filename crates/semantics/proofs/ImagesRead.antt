@@ -8,14 +8,15 @@ use lib.ListN.{length, getD, take, drop, length-append, length-drop, take-append
 use lib.Seq.{length-take-le, drop-at, drop-drop, getD-take}
 use lib.Dec.{ltb}
 use lib.IntN.{ℤ, pos, negsuc}
+use lib.Signed.{mag}
 use Rattle.semantics.specs.Bytes.{byte, u32, leBytes, table}
-use Rattle.semantics.specs.Signed.{signed, wrap, equalZ}
+use Rattle.semantics.specs.Signed.{signed, equalZ}
 use Rattle.semantics.specs.Plan.{Plan, variables}
 use Rattle.semantics.specs.Image.{Image, imageLength, withMarks, configurationOf, valueOk, configurationOk}
 use Rattle.semantics.proofs.Basics.{bool-cases, absurd-bool, or-cases, ltb-true, ltb-false, lt-ltb, le-ltb, eqb-true, length-table, getD-table, table-same, part-table}
 use Rattle.semantics.proofs.Masks.{length-leBytes}
 use Rattle.semantics.proofs.Images.{u32-past}
-use Rattle.semantics.proofs.Evaluator.{low-word, signed-word}
+use Rattle.semantics.proofs.SignedBits.{signed-in}
 use Rattle.semantics.proofs.Sound.{Sound}
 use Rattle.semantics.proofs.LawfulImage.{Configured, configured}
 
@@ -54,7 +55,7 @@ sound-read p b e h =
       valued =
           record {
             long = unfold configurationOf in (length-table 64 (λ v. signed (u32 b (56 + 4 * v))));
-            words = record { word-at = λ v. value-read b v (λ z. wrap z ≡ z) (λ l. signed-word (u32 b (56 + 4 * v))) (low-word 0 (omega arith)) };
+            words = record { word-at = λ v. value-read b v (λ z. mag z < 2147483648) (λ l. signed-in (u32 b (56 + 4 * v))) (omega arith) };
             unused = unused (t .value);
           };
     }

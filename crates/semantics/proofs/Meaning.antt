@@ -11,7 +11,7 @@ use Rattle.semantics.specs.Refusal.{unless, refusal}
 use Rattle.semantics.specs.Rules.{within, headOk, stateCountOk, oracleCountsOk, countsOk, layoutOk, componentOk, variableOk, transitionOk, portOk, interactionOk, rankOk, verdictOk, followerOk, oracleOk, tableOk, transitionCode, interactionCode, propositionCode, codeOk, planRules, planRefusal}
 use Rattle.semantics.specs.Run.{isRun, committedMoves, noCommit, crosses, someCrosses}
 use Rattle.semantics.specs.Sample.{joined, places, sections, counts, offsets, written, scale, sample, ranked, weighedAtStart, still, underflow}
-use Rattle.semantics.specs.Signed.{signed, residue, wrap, add, subtract, extend, equalZ, atLeast, holds, truth}
+use Rattle.semantics.specs.Signed.{signed, residue, saturate, add, subtract, extend, equalZ, atLeast, holds, truth}
 
 unfoldable pub inBook : Unit {0}
 unfolding replay lane bookImage bookOffered bookRefusal bookTried unlessWrong bookSettled turn told kept bookSession
@@ -62,5 +62,5 @@ unfolding joined places sections counts offsets written scale sample ranked weig
 inSample = tt
 
 unfoldable pub inSigned : Unit {0}
-unfolding signed residue wrap add subtract extend equalZ atLeast holds truth
+unfolding signed residue saturate add subtract extend equalZ atLeast holds truth
 inSigned = tt

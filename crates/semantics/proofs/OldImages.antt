@@ -1,5 +1,5 @@
 -- "Old plans and images mean what they meant" (02, job 1), the image and the calls: where a plan's bytes 42 to 45 and an image's bytes 9 to 11 are
--- zero, each call and each sequence of calls gives what it gave.
+-- zero, each call and each sequence of calls gives what it gives by OldMeaning.
 use mathlib.Core.Path.{_≡_, refl, sym, ap, ap₂, _∙_}
 use Prim.Native.Nat.{ℕ, zero, suc, _+_, _<_}
 use native.Mathlib.Omega.{arith}
@@ -167,7 +167,7 @@ module _ (p : Plan) (o : OldPlan p) where
   same-call-refusal b z (try i) = same-rules p o _ _ (ap (λ (rs : List Rule). refusal (rs ++ clerkRules p b i)) (same-image-rules b z))
   same-call-refusal b z settle = same-rules p o _ _ (ap refusal (same-image-rules b z))
 
-  -- Each call on an old image, of any length and content, gives what it gave.
+  -- Each call on an old image, of any length and content, gives what it gives by OldMeaning.
   pub same-call : (b : Image) → OldImage b → (k : Call) → called p b k ≡ old.called p b k
   unfolding called old.called
   same-call b z k = λ i. unlessRefused (same-call-refusal b z k i) b (same-performed b k i)
@@ -194,7 +194,7 @@ module _ (p : Plan) (o : OldPlan p) where
       go zero e = performs-old b k z (call-long p b k e) (performs p b k)
       go (suc n) e = z
 
-  -- Each sequence of calls gives what it gave.
+  -- Each sequence of calls gives what it gives by OldMeaning.
   pub same-calls : (b : Image) → OldImage b → (ks : List Call) → calledAll p b ks ≡ old.calledAll p b ks
   unfolding calledAll old.calledAll
   same-calls b z [] = refl

@@ -1,5 +1,6 @@
 -- The meaning before job 1 of 02, for the theorem that old plans mean what they meant; no call cites it.
--- Here stand the definitions that moved, and those over them, as they were; what did not move is cited.
+-- Here stand the definitions that moved with job 1, and those over them, as they were. What did not move with it is cited as it stands, so sums stop at
+-- the ends here too: the theorem speaks of the oracles, and `Wrapping` says where job 2 made sums differ.
 use Prim.Native.Nat.{ℕ, zero, suc, _+_, _*_}
 use mathlib.Core.Bool.{Bool, not, cond, _||_}
 use mathlib.Core.List.{List, [], _∷_, _++_}

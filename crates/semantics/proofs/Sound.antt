@@ -8,8 +8,9 @@ use mathlib.Core.List.{List, [], _∷_}
 use lib.ListN.{length, getD, List·getD-eq-default}
 use lib.Dec.{ltb, eqb}
 use lib.IntN.{ℤ, pos}
+use lib.Signed.{mag}
 use Rattle.semantics.specs.Bytes.{u32, allOf, table}
-use Rattle.semantics.specs.Signed.{wrap, equalZ}
+use Rattle.semantics.specs.Signed.{equalZ}
 use Rattle.semantics.specs.Plan.{Plan, maxComponents, maxVariables, noPort, components, variables, interactions, propositions, maxOracles, startStates, letters, locations, startLocation, startValue, ports}
 use Rattle.semantics.specs.Plan.{componentOf, destination, portIn, takesPart, actionOf, transferOf, variableAt, propositionOf}
 use Rattle.semantics.specs.Code.{State, guardHolds, ownedBy, sharedIn}
@@ -19,10 +20,11 @@ use Rattle.semantics.specs.Image.{locationOk, lastPortOk, valueOk, confi
 use Rattle.semantics.proofs.Basics.{bool-cases, absurd-bool, not-yes, or-cases, or-left, or-right, each, all-of, ltb-true, ltb-false, lt-ltb, le-ltb, every-at, every-all, length-table, getD-table}
 use Rattle.semantics.proofs.Masks.{mask-lt}
 use Rattle.semantics.proofs.AcceptedPlan.{Accepted, counts-of, action-ok, transfer-ok}
-use Rattle.semantics.proofs.Evaluator.{low-word, signed-word, Valued, acted-valued}
+use Rattle.semantics.proofs.Evaluator.{Valued, acted-valued}
 use Rattle.semantics.proofs.Images.{Shaped}
 use Rattle.semantics.proofs.OneMove.{Uses, uses}
 use Rattle.semantics.proofs.Oracles.{length-next-states, next-states-in-range, start-in-range}
+use Rattle.semantics.proofs.SignedBits.{signed-in}
 
 pub record Sound (p : Plan) (c : Configuration) : Type 0 where
   pub oracles-4 : length (c .oracles) ≡ maxOracles
@@ -65,9 +67,9 @@ judged-in-range p h qs s l = next-states-in-range p h qs (letter p s) l (letter-
 
 -- ---- the starting configuration
 
-initial-value : (p : Plan) (v : ℕ) → wrap (cond (ltb v (variables p)) (startValue p v) (pos 0)) ≡ cond (ltb v (variables p)) (startValue p v) (pos 0)
+initial-value : (p : Plan) (v : ℕ) → mag (cond (ltb v (variables p)) (startValue p v) (pos 0)) < 2147483648
 initial-value p v =
-    bool-cases (ltb v (variables p)) (λ e. rw e (signed-word (u32 p (variableAt p v + 4)))) (λ e. rw e (low-word 0 (omega arith)))
+    bool-cases (ltb v (variables p)) (λ e. rw e (signed-in (u32 p (variableAt p v + 4)))) (λ e. rw e (omega arith))
 
 initial-valued : (p : Plan) → Valued p (initialState p .values)
 unfolding initialState
@@ -75,7 +77,7 @@ initial-valued p =
     let f : ℕ → ℤ = λ v. cond (ltb v (variables p)) (startValue p v) (pos 0) in
     record {
       long = length-table maxVariables f;
-      words = record { word-at = λ v. in-or-out v (λ z. wrap z ≡ z) (initial-value p v) (low-word 0 (omega arith)) };
+      words = record { word-at = λ v. in-or-out v (λ z. mag z < 2147483648) (initial-value p v) (omega arith) };
       unused = λ v h. in-or-out v (λ z. z ≡ pos 0) (rw (le-ltb v (variables p) h)) refl;
     }
   where

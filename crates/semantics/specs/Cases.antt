@@ -1,14 +1,13 @@
--- The fourteen proved cases of 01 "The sample lane", as one table: what the definitions give, and what 01 says.
+-- The fourteen proved cases of 01 "The sample lane", as one table: what the definitions give, and what 01 says, case 13 as 02, job 2, has it.
 use Prim.Native.Nat.{ℕ}
 use mathlib.Core.Bool.{Bool, true, false, _&&_}
 use mathlib.Core.List.{List, [], _∷_, _++_, map}
-use lib.ListN.{length, replicate, getD, take, drop}
-use lib.Dec.{eqb}
-use lib.IntN.{ℤ, pos, negsuc}
-use Rattle.semantics.specs.Bytes.{byte, u32, leBytes}
+use lib.ListN.{length, replicate, take, drop}
+use lib.IntN.{ℤ, pos}
+use Rattle.semantics.specs.Bytes.{byte, u32}
 use Rattle.semantics.specs.Signed.{signed, equalZ, add}
 use Rattle.semantics.specs.Plan.{Plan}
-use Rattle.semantics.specs.Image.{Image, imageLength, marksOf}
+use Rattle.semantics.specs.Image.{Image, imageLength}
 use Rattle.semantics.specs.Calls.{Outcome, check, start, called, Call, offered, try, settle}
 use Rattle.semantics.specs.Sample.{sample, ranked, weighedAtStart, still, underflow}
 
@@ -96,8 +95,8 @@ cases =
     -- 12. The starting image with mark bit 1 set: 14.
     ∷ case (answered (called sample (marked startImage 2) settle) ++ answered (called sample (marked startImage 2) offered) ++ answered (called sample (marked startImage 2) (try 1)))
     (5 ∷ 14 ∷ 5 ∷ 14 ∷ 5 ∷ 14 ∷ [])
-    -- 13. 2147483647 add 1 is −2147483648.
-    ∷ record { gives = add (pos 2147483647) (pos 1) ∷ []; says = negsuc 2147483647 ∷ [] }
+    -- 13. 2147483647 add 1 is 2147483647 (02, job 2).
+    ∷ record { gives = add (pos 2147483647) (pos 1) ∷ []; says = pos 2147483647 ∷ [] }
     -- 14. A guard of the one word 6000: 10.
     ∷ case (length sample ∷ check sample .kind ∷ length underflow ∷ check underflow .kind ∷ check underflow .number ∷ []) (234 ∷ 0 ∷ 236 ∷ 5 ∷ 10 ∷ [])
     ∷ []

@@ -1,10 +1,11 @@
-// Runs the plan check, the calls on an image, and both with added oracles, at their limits: for each
-// case a line with the case and the answer. What the modules of the cases share stands here, private
-// to them: lawful plans laid into a buffer, and the lines of the calls.
+// Runs the plan check, the calls on an image, both with added oracles, and sums, at their limits: for
+// each case a line with the case and the answer. What the modules of the cases share stands here,
+// private to them: lawful plans laid into a buffer, and the lines of the calls.
 mod calls;
 mod checks;
 mod oracle_calls;
 mod oracle_checks;
+mod sums;
 
 ghost use Prim.Native.Nat.{_≤_};
 
@@ -251,4 +252,5 @@ fn main() {
     calls::run();
     oracle_checks::run();
     oracle_calls::run();
+    sums::run();
 }

@@ -2,6 +2,7 @@
 
 use reference::answer::Answer;
 use reference::calls;
+use reference::sums::{self, Past};
 
 use crate::causes::cause;
 use crate::difference::Difference;
@@ -30,11 +31,19 @@ struct Question<'a> {
     image: &'a [u8],
 }
 
+/// The calls that an older build is not held to, and those of them in which its answer or image differs.
+#[derive(Clone, Copy, Debug, Default, PartialEq, Eq)]
+pub struct LeftOut {
+    pub calls: u64,
+    pub different: u64,
+}
+
 pub struct Comparer {
     seed: u64,
     library: Engine,
-    /// The engines that are lent their buffers at one end in turn.
-    others: Vec<Engine>,
+    /// A build of the library whose sums may wrap.
+    older: Option<Engine>,
+    pub left_out: LeftOut,
     lent: Lent,
 }
 
@@ -48,22 +57,32 @@ impl Comparer {
         Comparer {
             seed,
             library,
-            others: vec![BASELINE],
+            older: None,
+            left_out: LeftOut::default(),
             lent: Lent::new(IMAGE_ROOM),
         }
     }
 
-    /// With one more engine.
-    pub fn and(mut self, engine: Engine) -> Comparer {
-        self.others.push(engine);
+    /// With an older build, whose sums may wrap: it is left out of the calls in which the reference sees a result past an end.
+    pub fn and_older(mut self, engine: Engine) -> Comparer {
+        self.older = Some(engine);
         self
     }
 
     /// The names of all that are compared.
     pub fn names(&self) -> String {
-        let engines = [&self.library].into_iter().chain(&self.others);
+        let engines = [self.library, BASELINE].into_iter().chain(self.older);
         let names = engines.map(|engine| engine.name).chain(["reference"]);
         names.collect::<Vec<_>>().join(", ")
+    }
+
+    /// What was left out of the comparison with the older build, where there is one.
+    pub fn told_of_older(&self) -> Option<String> {
+        let LeftOut { calls, different } = self.left_out;
+        let name = self.older?.name;
+        Some(format!(
+            "{name}: left out of {calls} calls with a result past an end; in {different} of them it differs"
+        ))
     }
 
     /// Holds the library, lent its buffers at either end, and the others, at one end in turn, against the reference.
@@ -74,8 +93,9 @@ impl Comparer {
         image: &[u8],
         call: Call,
     ) -> Checked<Outcome> {
-        let outcome = by_reference(call, plan.bytes(), image);
+        let (outcome, past) = sums::counted(|| by_reference(call, plan.bytes(), image));
         tally.count(call, outcome.answer);
+        tally.past(past);
         if let Some(cause) = cause(plan.bytes(), image, outcome.answer) {
             tally.cause(cause);
         }
@@ -89,10 +109,29 @@ impl Comparer {
             self.hold(self.library, end, &question, &outcome)?;
         }
         let in_turn = ENDS[tally.calls as usize % 2];
-        for n in 0..self.others.len() {
-            self.hold(self.others[n], in_turn, &question, &outcome)?;
-        }
+        self.hold(BASELINE, in_turn, &question, &outcome)?;
+        self.hold_older(in_turn, &question, &outcome, past)?;
         Ok(outcome)
+    }
+
+    /// Holds the older build, where there is one; where a result went past an end, what it says is only counted.
+    fn hold_older(
+        &mut self,
+        end: End,
+        question: &Question,
+        outcome: &Outcome,
+        past: Past,
+    ) -> Checked<()> {
+        let Some(older) = self.older else {
+            return Ok(());
+        };
+        let held = self.hold(older, end, question, outcome);
+        if past == Past::default() {
+            return held;
+        }
+        self.left_out.calls += 1;
+        self.left_out.different += u64::from(held.is_err());
+        Ok(())
     }
 
     fn hold(

@@ -44,6 +44,9 @@ impl Run {
             difference = session.round().err();
         }
         print!("{}", session.tally);
+        if let Some(told) = session.comparer.told_of_older() {
+            println!("{told}");
+        }
         if let Some(difference) = difference {
             difference.report(self.seed);
             println!("{} calls compared, 1 difference", session.tally.calls);

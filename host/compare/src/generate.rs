@@ -121,12 +121,21 @@ fn variable(rng: &mut Rng, components: usize) -> Variable {
     }
 }
 
+/// A value: most often a small one, at times at an end of 32 bits or a little inside, or where kind 1 comes to an end.
 pub fn value(rng: &mut Rng) -> i32 {
-    match rng.below(8) {
-        0 => rng.pick(&[i32::MIN, i32::MIN + 1, -1, i32::MAX - 1, i32::MAX]),
-        1 => rng.next() as i32,
+    match rng.below(16) {
+        0 | 1 => i32::MAX - inside(rng),
+        2 | 3 => i32::MIN + inside(rng),
+        4 => rng.pick(&[-524_289, -524_288, 524_287, 524_288]),
+        5 => rng.next() as i32,
         _ => rng.below(6) as i32 - 2,
     }
+}
+
+/// How far a value lies inside of an end.
+fn inside(rng: &mut Rng) -> i32 {
+    let most = rng.pick(&[0, 1, 3, 5000]);
+    rng.between(0, most) as i32
 }
 
 /// The variables whose owner a test admits.

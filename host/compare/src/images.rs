@@ -19,10 +19,10 @@ pub fn damaged(rng: &mut Rng, image: &[u8], draft: &Draft, other: &[u8]) -> Vec<
     bytes
 }
 
-/// Changes one byte or mark of the 312.
+/// Changes one byte or mark of the 312, or the values.
 fn damage_once(rng: &mut Rng, bytes: &mut [u8], draft: &Draft) {
     let component = rng.below(draft.components.len());
-    match rng.below(14) {
+    match rng.below(15) {
         0 => bytes[rng.below(16)] ^= 1 << rng.below(8),
         1 => bytes[8] = rng.below(draft.oracle.len() + 2) as u8,
         2 | 3 => added_state(rng, bytes, draft),
@@ -33,7 +33,15 @@ fn damage_once(rng: &mut Rng, bytes: &mut [u8], draft: &Draft) {
         8 => bytes[rng.between(9, 15)] = rng.byte(),
         9 => bytes[16..24].fill(rng.byte()),
         10..=12 => toggle_mark(rng, bytes, draft.interactions.len() + 1),
+        13 => values(rng, bytes, draft),
         _ => bytes[rng.below(312)] = rng.byte(),
+    }
+}
+
+/// Gives every variable of the plan another value.
+fn values(rng: &mut Rng, bytes: &mut [u8], draft: &Draft) {
+    for n in 0..draft.variables.len() {
+        bytes[56 + 4 * n..][..4].copy_from_slice(&generate::value(rng).to_le_bytes());
     }
 }
 
@@ -84,9 +92,7 @@ pub fn redressed(rng: &mut Rng, image: &[u8], draft: &Draft) -> Vec<u8> {
             rng.below(component.ports.into()) as u8
         };
     }
-    for n in 0..draft.variables.len() {
-        bytes[56 + 4 * n..][..4].copy_from_slice(&generate::value(rng).to_le_bytes());
-    }
+    values(rng, &mut bytes, draft);
     for (n, oracle) in [&draft.oracle].into_iter().chain(&draft.added).enumerate() {
         bytes[8 + n] = rng.below(oracle.len()) as u8;
     }

@@ -21,3 +21,5 @@ pub mod sequences;
 pub mod spoil;
 pub mod tally;
 pub mod words;
+#[cfg(test)]
+mod wrapping;

@@ -32,7 +32,7 @@ pub struct Session {
     rng: Rng,
     which: Plans,
     pub tally: Tally,
-    comparer: Comparer,
+    pub comparer: Comparer,
     plans: Shelf,
     /// An image that another plan reached.
     other: Vec<u8>,

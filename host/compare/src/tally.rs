@@ -4,6 +4,7 @@ use std::fmt;
 
 use reference::answer::Answer;
 use reference::draft::Draft;
+use reference::sums::Past;
 
 use crate::causes::{Cause, CAUSES};
 use crate::engines::Call;
@@ -19,6 +20,8 @@ const KINDS: [&str; 6] = [
     "penned",
     "refused",
 ];
+const SUMS: [&str; 3] = ["add", "subtract", "kind 1"];
+const ENDS: [&str; 2] = ["upper", "lower"];
 const SIZES: [&str; 11] = [
     "components",
     "variables",
@@ -39,6 +42,7 @@ pub struct Tally {
     answers: [[u64; 6]; 6],
     refusals: [u64; 21],
     causes: [u64; CAUSES.len()],
+    past: Past,
     plans: u64,
     largest: [usize; 11],
     book: u64,
@@ -58,6 +62,14 @@ impl Tally {
         self.causes[cause as usize] += 1;
     }
 
+    /// Counts the results of one call that went past an end.
+    pub fn past(&mut self, past: Past) {
+        let counts = self.past.as_flattened_mut().iter_mut();
+        for (all, more) in counts.zip(past.as_flattened()) {
+            *all += more;
+        }
+    }
+
     pub fn plan(&mut self, made: &Generated) {
         self.plans += 1;
         for (largest, size) in self.largest.iter_mut().zip(sizes(made)) {
@@ -71,7 +83,7 @@ impl Tally {
         self.most_moves = moves.max(self.most_moves);
     }
 
-    /// The answer kinds, refusals and causes that never occurred, of those that such plans can have.
+    /// The answer kinds, refusals, causes and results past an end that never occurred, of those that such plans can have.
     pub fn missing(&self, plans: Plans) -> Vec<String> {
         let (refusals, causes) = match plans {
             Plans::All => (1..21, &CAUSES[..]),
@@ -84,6 +96,16 @@ impl Tally {
             .map(|kind| KINDS[kind].to_string())
             .chain(refusals.map(|n| format!("refusal {n}")))
             .chain(causes.map(|(_, name)| name.to_string()))
+            .chain(self.never_past())
+            .collect()
+    }
+
+    /// The ends that no result of an operation went past.
+    fn never_past(&self) -> Vec<String> {
+        let ends = (0..3).flat_map(|sum| [(sum, 0), (sum, 1)]);
+        let never = ends.filter(|&(sum, end)| self.past[sum][end] == 0);
+        never
+            .map(|(sum, end)| format!("{} past the {} end", SUMS[sum], ENDS[end]))
             .collect()
     }
 }
@@ -137,6 +159,10 @@ impl fmt::Display for Tally {
         write!(f, "\n\nby added oracles")?;
         for ((_, name), count) in CAUSES.iter().zip(self.causes) {
             write!(f, "\n  {name}: {count}")?;
+        }
+        write!(f, "\n\nresults past the upper and the lower end")?;
+        for (name, [upper, lower]) in SUMS.iter().zip(self.past) {
+            write!(f, "\n  {name}: {upper}, {lower}")?;
         }
         write!(f, "\n\n{} accepted plans; the largest sizes:", self.plans)?;
         for (n, (name, size)) in SIZES.iter().zip(self.largest).enumerate() {

@@ -5,6 +5,9 @@ use reference::draft::{Component, Span};
 use crate::rng::Rng;
 
 const MOST_DEPTH: usize = 8;
+const ADD: u16 = 0x6000;
+const SUBTRACT: u16 = 0x6001;
+/// The operator that pops one value.
 const NOT: u16 = 6;
 
 #[derive(Clone, Copy, PartialEq, Eq)]
@@ -82,18 +85,47 @@ impl Writer {
     }
 
     fn write(&mut self, rng: &mut Rng, scope: &Scope, length: usize) -> Span {
-        let climb = rng.pick(&[30, 45, 70]);
-        let start = self.code.len() as u16;
+        let style = Style::new(rng);
+        let start = self.code.len();
+        let end = start + length;
         let mut depth = 0;
-        for left in (0..length).rev() {
-            let (word, after) = next_word(rng, scope, climb, depth, left);
-            self.code.push(word);
-            self.deepest = self.deepest.max(after);
-            depth = after;
+        while self.code.len() < end {
+            let left = end - self.code.len();
+            for word in next_words(rng, scope, &style, depth, left) {
+                depth = depth_after(depth, word).expect("the words fit");
+                self.deepest = self.deepest.max(depth);
+                self.code.push(word);
+            }
         }
         Span {
-            start,
+            start: start as u16,
             length: length as u16,
+        }
+    }
+}
+
+/// How the words of a span are chosen, each in so many of a hundred cases.
+struct Style {
+    /// Something is pushed.
+    climb: usize,
+    /// What is pushed is a large number.
+    large: usize,
+    /// What computes is kind 1.
+    extend: usize,
+    /// An operator is add or subtract; else it is any.
+    sums: usize,
+}
+
+impl Style {
+    /// One span in three sums up large numbers.
+    fn new(rng: &mut Rng) -> Style {
+        let climb = rng.pick(&[30, 45, 70]);
+        let (large, extend, sums) = rng.pick(&[(0, 10, 0), (0, 10, 0), (25, 25, 75)]);
+        Style {
+            climb,
+            large,
+            extend,
+            sums,
         }
     }
 }
@@ -107,23 +139,31 @@ fn length(rng: &mut Rng) -> usize {
     }
 }
 
-/// A word, and the depth after it, from which the words left can end the span.
-fn next_word(
-    rng: &mut Rng,
-    scope: &Scope,
-    climb: usize,
-    depth: usize,
-    left: usize,
-) -> (u16, usize) {
+/// Words, at most as many as are left, after which the others can end the span.
+fn next_words(rng: &mut Rng, scope: &Scope, style: &Style, depth: usize, left: usize) -> Vec<u16> {
     loop {
-        let (word, pops, pushes) = any_word(rng, scope, climb);
-        if depth >= pops {
-            let after = depth - pops + pushes;
-            if after <= MOST_DEPTH && can_end(scope.role, after, left) {
-                return (word, after);
+        let words = any_words(rng, scope, style);
+        let others = left.checked_sub(words.len());
+        let mut each = words.iter();
+        let after = each.try_fold(depth, |depth, &word| depth_after(depth, word));
+        if let (Some(others), Some(after)) = (others, after) {
+            if can_end(scope.role, after, others) {
+                return words;
             }
         }
     }
+}
+
+/// The depth after a word; none where it pops what is not there or goes too deep.
+fn depth_after(depth: usize, word: u16) -> Option<usize> {
+    let (pops, pushes) = match (word >> 12, word & 0xfff) {
+        (1, _) | (6, NOT) => (1, 1),
+        (3, _) => (1, 0),
+        (6, _) => (2, 1),
+        _ => (0, 1),
+    };
+    let after = depth.checked_sub(pops)? + pushes;
+    (after <= MOST_DEPTH).then_some(after)
 }
 
 /// Whether so many words can bring the depth to the one a span ends at.
@@ -136,21 +176,38 @@ fn can_end(role: Role, depth: usize, left: usize) -> bool {
     }
 }
 
-/// A word that may stand in the scope, with its pops and pushes.
-fn any_word(rng: &mut Rng, scope: &Scope, climb: usize) -> (u16, usize, usize) {
-    if rng.chance(climb) {
-        return (push(rng, scope), 0, 1);
+/// A word that may stand in the scope, or the words of a large number.
+fn any_words(rng: &mut Rng, scope: &Scope, style: &Style) -> Vec<u16> {
+    if rng.chance(style.climb) {
+        return match rng.chance(style.large) {
+            true => large(rng),
+            false => vec![push(rng, scope)],
+        };
     }
-    if scope.role == Role::Update && rng.chance(40) {
-        return (0x3000 | rng.pick(scope.variables), 1, 0);
+    let word = if scope.role == Role::Update && rng.chance(40) {
+        0x3000 | rng.pick(scope.variables)
+    } else if rng.chance(style.extend) {
+        0x1000 | number(rng)
+    } else if rng.chance(style.sums) {
+        rng.pick(&[ADD, SUBTRACT])
+    } else {
+        0x6000 | rng.below(8) as u16
+    };
+    vec![word]
+}
+
+/// Words that push a number around 2^31 or around 2^19, from which kind 1 comes there, or the negative of one.
+fn large(rng: &mut Rng) -> Vec<u16> {
+    let digit = |rng: &mut Rng| 0x1000 | rng.pick(&[0, 1, 4094, 4095]);
+    let mut words = vec![rng.pick(&[127, 128]), digit(rng)];
+    if rng.chance(50) {
+        words.insert(0, 0);
+        words.push(SUBTRACT);
     }
-    if rng.chance(10) {
-        return (0x1000 | number(rng), 1, 1);
+    if rng.chance(70) {
+        words.push(digit(rng));
     }
-    match rng.below(8) as u16 {
-        NOT => (0x6000 | NOT, 1, 1),
-        operator => (0x6000 | operator, 2, 1),
-    }
+    words
 }
 
 /// A word that pushes a number, a variable or a test.

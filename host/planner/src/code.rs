@@ -26,7 +26,7 @@ impl Code {
         self
     }
 
-    /// Pushes any number: kinds 0 and 1 for its size, subtracted from 0 where it is negative, so that nothing wraps.
+    /// Pushes any number: kinds 0 and 1 for its size, subtracted from 0 where it is negative, so that no sum goes past an end.
     pub fn int(self, n: i32) -> Code {
         match n {
             i32::MIN => self.int(i32::MIN + 1).int(1).op(Op::Subtract),

@@ -3,9 +3,11 @@
 use planner::drive::{drive, Disabler};
 use planner::lane::Lane;
 use planner::plan::Plan;
-use planner::plans::{chain, maximal, philosophers, robots, sample, tasks, wet_bales};
+use planner::plans::{chain, maximal, philosophers, robots, sample, sums, tasks, wet_bales};
 use planner::rng::Rng;
-use yard::{Answer, CANCELLED, COMMITTED, REFUSED};
+use reference::calls;
+use reference::sums::{counted, Past};
+use yard::{Answer, CANCELLED, COMMITTED, IMAGE_BYTES, REFUSED};
 
 fn lane(plan: Plan) -> Lane {
     Lane::start(plan.bytes()).unwrap()
@@ -246,4 +248,44 @@ fn settling_dries_each_wet_bale() {
     expected.extend([BRING_WET, WEIGH, DRY, WEIGH, SHIP, STORE]);
     let mut lane = lane(wet_bales::plan());
     assert_eq!(settled(&mut lane, expected.len()), expected);
+}
+
+#[test]
+fn the_ledger_takes_deliveries_until_the_yard_is_full_and_then_ships() {
+    const DELIVERY: i32 = 145_105_000;
+    const STOCK: usize = 24;
+    let mut lane = lane(sums::plan());
+    assert_eq!(settled(&mut lane, 10), [0, 0, 0, 0, 2, 2, 2, 2, 4, 4]);
+    assert_eq!(lane.value(STOCK), 10 * DELIVERY);
+    assert_eq!(lane.attempt(4), answer(CANCELLED, 4));
+    assert_eq!(settled(&mut lane, 6), [8, 0, 0, 0, 0, 8]);
+    let piles: i32 = (0..STOCK).map(|pile| lane.value(pile)).sum();
+    assert_eq!((lane.value(STOCK), piles), (6 * DELIVERY, 6 * DELIVERY));
+}
+
+#[test]
+fn most_words_of_the_ledger_are_sums() {
+    let plan = sums::plan().bytes();
+    let code = usize::from(u16::from_le_bytes([plan[40], plan[41]]));
+    let words = plan[code..].chunks_exact(2);
+    let words = words.map(|word| u16::from_le_bytes([word[0], word[1]]));
+    let is_sum = |word: &u16| word >> 12 == 1 || matches!(word, 0x6000 | 0x6001);
+    let (sums, others): (Vec<u16>, Vec<u16>) = words.partition(is_sum);
+    assert!(sums.len() > others.len());
+}
+
+#[test]
+fn no_sum_of_the_ledger_goes_past_an_end() {
+    let plan = sums::plan().bytes();
+    let (mut image, mut rng) = ([0; IMAGE_BYTES], Rng(9));
+    let (cancelled, past) = counted(|| {
+        calls::start(&plan, &mut image);
+        let mut one = || {
+            let tried = rng.bit(calls::offered(&plan, &image).1);
+            calls::attempt(&plan, &mut image, tried).kind()
+        };
+        (0..2000).filter(|_| one() == CANCELLED).count()
+    });
+    assert!(cancelled > 50);
+    assert_eq!(past, Past::default());
 }

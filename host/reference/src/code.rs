@@ -2,6 +2,7 @@
 
 use crate::lane::Lane;
 use crate::plan::{Plan, Span, NO_PORT};
+use crate::sums;
 
 const MOST_WORDS: usize = 64;
 const MOST_DEPTH: usize = 8;
@@ -191,7 +192,7 @@ fn run(plan: &Plan, span: Span, lane: &Lane, values: &mut [i32]) -> Vec<i32> {
             Word::Push(number) => stack.push(number),
             Word::Extend(number) => {
                 let top = pop(&mut stack);
-                stack.push(top.wrapping_mul(4096).wrapping_add(number));
+                stack.push(sums::extend(top, number));
             }
             Word::Load(variable) => stack.push(values[variable]),
             Word::Store(variable) => values[variable] = pop(&mut stack),
@@ -224,8 +225,8 @@ fn pop(stack: &mut Vec<i32>) -> i32 {
 pub fn apply(operator: Operator, left: i32, right: i32) -> i32 {
     let (l, r) = (left != 0, right != 0);
     match operator {
-        Operator::Add => left.wrapping_add(right),
-        Operator::Subtract => left.wrapping_sub(right),
+        Operator::Add => sums::add(left, right),
+        Operator::Subtract => sums::subtract(left, right),
         Operator::Equal => (left == right).into(),
         Operator::AtLeast => (left >= right).into(),
         Operator::And => (l && r).into(),

@@ -9,3 +9,4 @@ pub mod draft;
 pub mod image;
 pub mod lane;
 pub mod plan;
+pub mod sums;

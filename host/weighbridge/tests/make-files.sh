@@ -120,9 +120,18 @@ plan states-swapped.plan 22 01 , 208 00 00 00 02 01 00
 plan owes-five.plan 56 fb ff ff ff
 { head -c 60 sample.plan; tail -c +109 sample.plan; } > shorter.plan
 patched shorter.plan no-transitions.plan 8 ba , 14 00 , 32 3c 00 84 00 9c 00 a0 00 a6 00
-# The tare starts at 2147483647, and move 1 adds 1 to it.
+# The tare starts at 2147483647, or one below, and move 1 adds 1 to it.
 { cat sample.plan; printf '\x00\x20\x01\x00\x00\x60\x00\x30'; } > longer.plan
-patched longer.plan wrap.plan 8 f2 , 24 0e , 56 ff ff ff 7f , 80 0a 00 04
+patched longer.plan held.plan 8 f2 , 24 0e , 56 ff ff ff 7f , 80 0a 00 04
+patched held.plan one-below.plan 56 fe
+# The tare starts at -524289, and move 1 takes it times 4096 plus 4095.
+{ cat sample.plan; printf '\x00\x20\xff\x1f\x00\x30'; } > longer.plan
+patched longer.plan held-once.plan 8 f0 , 24 0d , 56 ff ff f7 ff , 80 0a 00 03
+# As held.plan, but a negative tare is bad; and the same where move 1 stores -2147483648, as a sum that runs round does.
+{ cat held.plan; printf '\x00\x20\x00\x00\x03\x60\x06\x60'; } > longer.plan
+patched longer.plan old-mark.plan 8 fa , 24 12 , 204 0e 00 04
+{ cat old-mark.plan; printf '\x00\x00\x7f\x00\xff\x1f\xff\x1f\x01\x60\x01\x00\x01\x60\x00\x30'; } > longer.plan
+patched longer.plan ran-round.plan 8 0a 01 , 24 1a , 80 12 00 08
 # The wet bales' lane under the common oracle alone.
 { head -c 414 wet-bales.plan; tail -c +442 wet-bales.plan; } > shorter.plan
 patched shorter.plan common.plan 8 0a 02 , 40 9e 01 00 00
@@ -180,3 +189,6 @@ wet_image 13-added-bad.image 9 02
 wet_image 13-added-unused.image 10 01
 image marked.image 16 01
 image tared.image 24 01 , 40 00 , 56 28 23
+# Lanes of old-mark.plan, with a mark on move 1 and without.
+image old-mark.image 16 02 , 56 ff ff ff 7f
+image old-unmarked.image 56 ff ff ff 7f

@@ -7,13 +7,14 @@ use crate::words::{sign, Operator, Word};
 
 #[derive(Clone, Debug, PartialEq, Eq)]
 pub enum Expression {
+    /// Kinds 0 and 1: not negative, and held at the upper end of 32 bits.
     Number(i32),
     Variable(usize),
     /// A value kept before the variables in it were assigned anew.
     Kept(usize),
     At(usize, u8),
     Last(usize, u8),
-    /// Times 4096 plus a number: kind 1 on what is no number.
+    /// Times 4096 plus a number, held once: kind 1 on what is no number.
     Extended(Box<Expression>, u16),
     Not(Box<Expression>),
     Joined(Operator, Box<Expression>, Box<Expression>),
@@ -95,7 +96,8 @@ impl Reader {
 fn extended(top: Expression, number: u16) -> Expression {
     match top {
         Expression::Number(top) => {
-            Expression::Number(top.wrapping_mul(4096).wrapping_add(number.into()))
+            let exact = i64::from(top) * 4096 + i64::from(number);
+            Expression::Number(exact.min(i32::MAX.into()) as i32)
         }
         top => Expression::Extended(Box::new(top), number),
     }
@@ -105,7 +107,7 @@ fn extended(top: Expression, number: u16) -> Expression {
 #[derive(Clone, Copy, PartialEq, Eq)]
 enum Class {
     Atom,
-    Negative,
+    Product,
     Sum,
     Comparison,
     Not,
@@ -138,7 +140,6 @@ fn bare(parent: Class, operand: Class, left: bool) -> bool {
 impl Expression {
     fn class(&self) -> Class {
         match self {
-            Expression::Number(number) if *number < 0 => Class::Negative,
             Expression::Number(_)
             | Expression::Variable(_)
             | Expression::Kept(_)
@@ -179,7 +180,7 @@ impl Display for Expression {
                 write!(f, "last({component}, {})", text::last_port(*port))
             }
             Expression::Extended(inner, number) => {
-                inner.operand(f, Class::Negative, true)?;
+                inner.operand(f, Class::Product, true)?;
                 write!(f, " * 4096 + {number}")
             }
             Expression::Not(inner) => {
@@ -229,11 +230,15 @@ mod tests {
     }
 
     #[test]
-    fn numbers_wrap_and_negative_ones_stand_in_parentheses() {
+    fn numbers_are_held_at_the_upper_end() {
+        assert_eq!(text(&[0x007f, 0x1fff, 0x1ffe]), "2147483646");
         assert_eq!(text(&[0x007f, 0x1fff, 0x1fff]), "2147483647");
-        assert_eq!(text(&[0x0080, 0x1000, 0x1000]), "-2147483648");
-        let sum = [0x2001, 0x0fff, 0x1fff, 0x1fff, 0x6000];
-        assert_eq!(text(&sum), "v1 + (-1)");
+        assert_eq!(text(&[0x0080, 0x1000, 0x1000]), "2147483647");
+        assert_eq!(text(&[0x0fff, 0x1fff, 0x1fff, 0x1fff]), "2147483647");
+    }
+
+    #[test]
+    fn what_is_no_number_is_extended_in_parentheses() {
         assert_eq!(text(&[0x2001, 0x1005]), "v1 * 4096 + 5");
         assert_eq!(
             text(&[0x2001, 1, 0x6000, 0x1005, 0x1006]),

@@ -5,9 +5,10 @@ use std::collections::BTreeMap;
 use compare::generate;
 use compare::rng::Rng;
 use reference::code;
-use reference::draft;
+use reference::draft::{self, Draft};
 use reference::lane::Lane;
 use reference::plan::{Plan, Span};
+use reference::sums::{self, Past};
 use yard_plan::expression;
 
 /// Works out an expression's text on a lane. Its grammar has no ranks of its own: operators of one kind go from left to right, and of two
@@ -75,23 +76,30 @@ impl Text<'_> {
         i32::from(if equal { left == right } else { left >= right })
     }
 
+    /// Each sum and each difference is held, a product with what is added to it once.
     fn sum(&mut self) -> i32 {
         let mut left = self.atom();
         if self.peek() == "*" {
-            self.take();
-            left = left.wrapping_mul(self.atom());
+            left = self.extended(left.into());
         }
         while ["+", "-"].contains(&self.peek()) {
             let add = self.take() == "+";
             let right = self.atom();
             assert_ne!(self.peek(), "*");
-            left = if add {
-                left.wrapping_add(right)
-            } else {
-                left.wrapping_sub(right)
+            left = match add {
+                true => left.saturating_add(right),
+                false => left.saturating_sub(right),
             };
         }
         left
+    }
+
+    fn extended(&mut self, left: i64) -> i32 {
+        self.expect("*");
+        let product = left * i64::from(self.atom());
+        self.expect("+");
+        let exact = product + i64::from(self.atom());
+        exact.clamp(i32::MIN.into(), i32::MAX.into()) as i32
     }
 
     fn number(&mut self) -> usize {
@@ -102,11 +110,7 @@ impl Text<'_> {
         let token = self.take();
         match &token[..] {
             "(" => {
-                let value = if self.peek() == "-" {
-                    self.negative()
-                } else {
-                    self.whole()
-                };
+                let value = self.whole();
                 self.expect(")");
                 value
             }
@@ -114,11 +118,6 @@ impl Text<'_> {
             name if name.starts_with(['v', 't']) => self.values[name],
             number => number.parse().unwrap(),
         }
-    }
-
-    fn negative(&mut self) -> i32 {
-        self.expect("-");
-        format!("-{}", self.take()).parse().unwrap()
     }
 
     fn test(&mut self, location: bool) -> i32 {
@@ -144,7 +143,7 @@ fn tokens(text: &str) -> Vec<&str> {
     for word in text.split_whitespace() {
         let mut rest = word;
         while !rest.is_empty() {
-            let sign = rest.find(['(', ')', ',', '-']);
+            let sign = rest.find(['(', ')', ',']);
             let length = match sign {
                 Some(0) => 1,
                 Some(before) => before,
@@ -158,9 +157,6 @@ fn tokens(text: &str) -> Vec<&str> {
 }
 
 fn value(text: &str, lane: &Lane, values: &BTreeMap<String, i32>) -> i32 {
-    if let Ok(number) = text.parse() {
-        return number;
-    }
     let tokens = tokens(text);
     let mut reader = Text {
         tokens,
@@ -179,7 +175,7 @@ fn named(lane: &Lane) -> BTreeMap<String, i32> {
 }
 
 /// The lane's values after an action's or transfer's text.
-fn updated(text: &str, lane: &Lane) -> Vec<i32> {
+fn values_after(text: &str, lane: &Lane) -> Vec<i32> {
     let mut values = named(lane);
     for statement in text.split("; ") {
         let (name, from) = match statement.strip_prefix("let ") {
@@ -222,36 +218,49 @@ fn read(span: draft::Span) -> Span {
     }
 }
 
+/// The spans of guards and propositions.
+fn tests(draft: &Draft) -> Vec<draft::Span> {
+    let transitions = draft.transitions.iter().map(|t| t.guard);
+    let guards = transitions.chain(draft.interactions.iter().map(|i| i.guard));
+    guards.chain(draft.propositions.iter().copied()).collect()
+}
+
+/// The spans of actions and transfers.
+fn updates(draft: &Draft) -> Vec<draft::Span> {
+    let actions = draft.transitions.iter().map(|t| t.action);
+    let transfers = draft.interactions.iter().map(|i| i.transfer);
+    actions.chain(transfers).collect()
+}
+
 #[test]
 fn the_text_means_what_the_words_mean() {
     let mut rng = Rng::new(16);
-    let (mut tests, mut updates, mut kept) = (0, 0, 0);
+    let (mut tested, mut updated, mut kept, mut held) = (0, 0, 0, 0);
     for _ in 0..500 {
         let draft = generate::plan(&mut rng).draft;
         let plan = Plan::read(&draft.bytes()).unwrap();
         let lane = random_lane(&mut rng, &plan);
-        let guards = draft.transitions.iter().map(|t| t.guard);
-        let guards = guards.chain(draft.interactions.iter().map(|i| i.guard));
-        for span in guards.chain(draft.propositions.iter().copied()) {
+        for span in tests(&draft) {
             let Some(text) = text(&draft.code, span) else {
                 continue;
             };
-            let holds = value(&text, &lane, &named(&lane)) != 0;
-            assert_eq!(holds, code::holds(&plan, read(span), &lane), "{text}");
-            tests += 1;
+            let (holds, past) = sums::counted(|| code::holds(&plan, read(span), &lane));
+            assert_eq!(value(&text, &lane, &named(&lane)) != 0, holds, "{text}");
+            tested += 1;
+            held += usize::from(past != Past::default());
         }
-        let actions = draft.transitions.iter().map(|t| t.action);
-        for span in actions.chain(draft.interactions.iter().map(|i| i.transfer)) {
+        for span in updates(&draft) {
             let Some(text) = text(&draft.code, span) else {
                 continue;
             };
             let mut after = lane.clone();
-            code::update(&plan, read(span), &mut after);
-            assert_eq!(updated(&text, &lane), after.values, "{text}");
+            let ((), past) = sums::counted(|| code::update(&plan, read(span), &mut after));
+            assert_eq!(values_after(&text, &lane), after.values, "{text}");
             kept += usize::from(text.contains("let "));
-            updates += 1;
+            updated += 1;
+            held += usize::from(past != Past::default());
         }
     }
-    println!("{tests} guards and propositions, {updates} actions and transfers, {kept} of them with kept values");
-    assert!(tests > 1000 && updates > 1000 && kept > 100);
+    println!("{tested} guards and propositions, {updated} actions and transfers, {kept} of them with kept values; {held} with held results");
+    assert!(tested > 1000 && updated > 1000 && kept > 100 && held > 1000);
 }

@@ -1,4 +1,6 @@
 //! Compares every call of libyard.a with that of an older build as well, whose calls are named old_; with --old on plans without added oracles alone.
+//! Calls in which the reference sees an exact result past an end of 32 bits may mean something else to the older build, whose sums may wrap: it is left out of
+//! these, and it is said how many they are and in how many it differs. In all others its answer and image must be the same.
 
 use std::process::ExitCode;
 
@@ -28,5 +30,5 @@ const OLD: Engine = Engine {
 };
 
 fn main() -> ExitCode {
-    command::run("same", |seed| Comparer::new(seed).and(OLD))
+    command::run("same", |seed| Comparer::new(seed).and_older(OLD))
 }

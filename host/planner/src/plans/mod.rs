@@ -5,6 +5,7 @@ pub mod maximal;
 pub mod philosophers;
 pub mod robots;
 pub mod sample;
+pub mod sums;
 pub mod tasks;
 pub mod wet_bales;
 
@@ -24,5 +25,6 @@ pub fn all() -> Vec<(&'static str, Plan)> {
         ("maximal.plan", maximal::plan()),
         ("maximal-oracles.plan", maximal::with_oracles()),
         ("wet-bales.plan", wet_bales::plan()),
+        ("sums.plan", sums::plan()),
     ]
 }

@@ -137,8 +137,8 @@ fn case_12_a_mark_on_a_safe_move_is_false() {
 }
 
 #[test]
-fn case_13_add_wraps() {
-    assert_eq!(apply(Operator::Add, 2147483647, 1), -2147483648);
+fn case_13_add_is_held() {
+    assert_eq!(apply(Operator::Add, 2147483647, 1), 2147483647);
 }
 
 #[test]

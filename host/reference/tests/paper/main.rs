@@ -1,4 +1,4 @@
-//! The cases, limits and refusals of 01, and the added oracles of 02, run on the reference.
+//! The cases, limits and refusals of 01, and the added oracles and held sums of 02, run on the reference.
 
 mod added;
 mod book;
@@ -7,3 +7,4 @@ mod limits;
 mod moves;
 mod refusals;
 mod sample;
+mod sums;

@@ -2,7 +2,7 @@
 
 use reference::answer::{Answer, Refusal};
 use reference::code::{apply, Operator};
-use reference::draft::{Component, Draft, Span, Transition};
+use reference::draft::{Component, Draft, Transition};
 
 use crate::sample::*;
 
@@ -11,16 +11,6 @@ fn harmless() -> Draft {
     let mut plan = sample();
     plan.oracle = vec![state(2, &[0, 0])];
     plan
-}
-
-/// Adds words behind the code.
-fn add(plan: &mut Draft, words: &[u16]) -> Span {
-    let span = Span {
-        start: plan.code.len() as u16,
-        length: words.len() as u16,
-    };
-    plan.code.extend(words);
-    span
 }
 
 #[test]
@@ -133,12 +123,12 @@ fn a_cancelled_move_keeps_the_marks_before_it() {
 }
 
 #[test]
-fn kind_1_wraps() {
+fn kind_1_is_held() {
     let mut plan = harmless();
     plan.transitions[0].action = add(&mut plan, &[0x0fff, 0x1fff, 0x1fff, 0x3000]);
     let mut image = started(&plan);
     assert_eq!(attempt(&plan, &mut image, 0), Answer::Committed(0));
-    assert_eq!(value(&image, 0), -1);
+    assert_eq!(value(&image, 0), i32::MAX);
 }
 
 #[test]
@@ -151,8 +141,8 @@ fn operators_have_the_deeper_value_on_the_left() {
     assert_eq!(of(5, 3), [8, 2, 0, 1, 1, 1, 0, 1]);
     assert_eq!(of(-1, 0), [-1, -1, 0, 0, 0, 1, 1, 0]);
     assert_eq!(of(0, 2), [2, -2, 0, 0, 0, 1, 0, 1]);
-    assert_eq!(of(i32::MIN, i32::MIN), [0, 0, 1, 1, 1, 1, 0, 1]);
-    assert_eq!(of(i32::MIN, 1), [i32::MIN + 1, i32::MAX, 0, 0, 1, 1, 0, 1]);
+    assert_eq!(of(i32::MIN, i32::MIN), [i32::MIN, 0, 1, 1, 1, 1, 0, 1]);
+    assert_eq!(of(i32::MIN, 1), [i32::MIN + 1, i32::MIN, 0, 0, 1, 1, 0, 1]);
 }
 
 #[test]

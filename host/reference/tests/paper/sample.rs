@@ -80,14 +80,20 @@ pub fn sample() -> Draft {
     }
 }
 
+/// Adds words behind the code.
+pub fn add(plan: &mut Draft, words: &[u16]) -> Span {
+    let span = Span {
+        start: plan.code.len() as u16,
+        length: words.len() as u16,
+    };
+    plan.code.extend(words);
+    span
+}
+
 /// The sample with words added behind its code.
 pub fn with_words(words: &[u16]) -> (Draft, Span) {
     let mut draft = sample();
-    let span = Span {
-        start: draft.code.len() as u16,
-        length: words.len() as u16,
-    };
-    draft.code.extend(words);
+    let span = add(&mut draft, words);
     (draft, span)
 }
 

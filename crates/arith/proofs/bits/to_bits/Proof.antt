@@ -1,18 +1,27 @@
 use native.Mathlib.Omega.{arith}
-use borrow.Author.Needs.{needs}
-use Rattle.arith.proofs.Signed32.{back32, back64}
+use Rattle.arith.proofs.SignTest.{complement, not-negative, residue-negative, residue-other}
 use Rattle.arith.proofs.bits.to_bits.Statement.{statement}
 use Rattle.arith.proofs.bits.to_bits.Tie as tie
 
-cast-low-bits : tie.Need-cast-low-bits
-cast-low-bits c = rw (back32 (c .args .v) (c .fits .v .sfits)) (record { sfits = omega arith })
+cast-result : tie.Need-cast-result
+cast-result c = let s = c .before in let h = s .fits .v .sfits in
+    rw (complement (s .args .v) h (c .if1 .taken)) (tt, record { fits = omega (arith, h) })
 
-low-bits-requires : tie.Need-low-bits-requires
-low-bits-requires c κs = search needs
+sub-result : tie.Need-sub-result
+sub-result c = let s = c .before in let h = s .fits .v .sfits in
+    rw (complement (s .args .v) h (c .if1 .taken)) (omega (arith, h))
+
+cast-result-2 : tie.Need-cast-result-2
+cast-result-2 c = let s = c .before in let h = s .fits .v .sfits in
+    rw (not-negative (s .args .v) h (c .if1 .left)) (tt, record { fits = omega (arith, h) })
 
 returns : tie.Need-returns
-returns c = let s = c .before in
-    rw (back32 (s .args .v) (s .fits .v .sfits), back64 (s .args .v) (omega (arith, s .fits .v .sfits))) at (c .low-bits .ensures)
+returns c = let s = c .before in let h = s .fits .v .sfits in
+    rw (complement (s .args .v) h (c .if1 .taken), residue-negative (s .args .v) h (c .if1 .taken))
+
+returns-2 : tie.Need-returns-2
+returns-2 c = let s = c .before in let h = s .fits .v .sfits in
+    rw (not-negative (s .args .v) h (c .if1 .left), residue-other (s .args .v) h (c .if1 .left))
 
 pub to-bits-spec : {M : Type 1} → statement M
-to-bits-spec = tie.close (tie.spec cast-low-bits low-bits-requires returns)
+to-bits-spec = tie.close (tie.spec cast-result sub-result cast-result-2 returns returns-2)

@@ -9,14 +9,14 @@ use Rattle.arith.proofs.sums.extend.Tie as tie
 wide-extend-requires : tie.Need-wide-extend-requires
 wide-extend-requires c κs = search needs
 
-reduce-requires : tie.Need-reduce-requires
-reduce-requires c κs = search needs
+saturate-requires : tie.Need-saturate-requires
+saturate-requires c κs = search needs
 
 returns : tie.Need-returns
 unfolding extend
 returns c = let s = c .before .before in
     let e : c .before .wide-extend .result ≡ s .args .top *ℤ pos 4096 +ℤ pos (s .args .n) = rw (back32 (s .args .top) (s .fits .top .sfits)) at (c .before .wide-extend .ensures) in
-    back32 _ (c .reduce .ok) ∙ rw (back64 _ (c .before .wide-extend .ok), e) at (c .reduce .ensures)
+    back32 _ (c .saturate .ok) ∙ rw (back64 _ (c .before .wide-extend .ok), e) at (c .saturate .ensures)
 
 pub extend-spec : {M : Type 1} → statement M
-extend-spec = tie.close (tie.spec wide-extend-requires reduce-requires returns)
+extend-spec = tie.close (tie.spec wide-extend-requires saturate-requires returns)
