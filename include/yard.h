@@ -33,13 +33,12 @@ enum yard_image_place {
     YARD_IMAGE_VALUES = 56       /* 4 bytes a variable: a signed number */
 };
 
-/* A move is eligible where it is enabled and no enabled move lies above it. */
 enum yard_kind {
     YARD_ACCEPTED = 0,  /* number 0 */
     YARD_COMMITTED = 1, /* number: the interaction; the image holds the lane after it, with no marks */
     YARD_CANCELLED = 2, /* number: the interaction; its mark is set and no other byte differs */
     YARD_STALLED = 3,   /* number 0: no move is enabled; no byte changes */
-    YARD_PENNED = 4,    /* number 0: moves are enabled, and no eligible one ends good; every eligible one is marked */
+    YARD_PENNED = 4,    /* number 0: moves are enabled, and none of them ends good; every enabled one is marked */
     YARD_REFUSED = 5    /* number: one of enum yard_refusal; no byte changes */
 };
 
@@ -59,11 +58,11 @@ enum yard_refusal {
     YARD_BAD_LENGTH = 11,     /* image: not 312 bytes */
     YARD_OTHER_PLAN = 12,     /* image: bytes 0-7 or 12-15 do not match form 1 and the plan */
     YARD_BAD_STATE = 13,      /* image: an oracle state, location or last port out of range or bad, or an unused entry filled */
-    YARD_FALSE_MARK = 14,     /* image: a mark on a move that is not eligible or would end good */
+    YARD_FALSE_MARK = 14,     /* image: a mark on a move that is not enabled or would end good, or below an enabled one without a mark */
     YARD_BAD_START = 15,      /* start: the starting state is bad */
     YARD_NO_SUCH_MOVE = 16,   /* try: the number is not an interaction of the plan */
     YARD_NOT_ENABLED = 17,    /* try: the move is not enabled */
-    YARD_OUTRANKED = 18,      /* try: an enabled move lies above it */
+    YARD_OUTRANKED = 18,      /* try: an enabled move that is not marked lies above it */
     YARD_MARKED = 19          /* try: it was tried in this state and ends bad */
 };
 
@@ -79,13 +78,14 @@ uint32_t yard_start(const uint8_t *plan, size_t plan_len, uint8_t *image, size_t
 /* Whether plan and image are lawful, so that yard_offered_bits has an answer: accepted, or refused with 1 to 14 or 20. */
 uint32_t yard_offered(const uint8_t *plan, size_t plan_len, const uint8_t *image, size_t image_len);
 
-/* The moves on offer (enabled, not outranked, not marked): bit i for interaction i. 0 where the call is refused. */
+/* The moves on offer (enabled, not marked, each enabled move above them marked): bit i for interaction i. 0 where the call is refused. */
 uint64_t yard_offered_bits(const uint8_t *plan, size_t plan_len, const uint8_t *image, size_t image_len);
 
 /* Tries one move: committed, cancelled, or refused with 1 to 14 or 16 to 20. */
 uint32_t yard_try(const uint8_t *plan, size_t plan_len, uint8_t *image, size_t image_len, uint32_t interaction);
 
-/* Settles on the lowest-numbered eligible move that ends good: committed, stalled, penned, or refused with 1 to 14 or 20. */
+/* Settles on the lowest-numbered enabled move that ends good and has no enabled move above it that does: committed, stalled, penned, or
+ * refused with 1 to 14 or 20. The marks make no difference to it. */
 uint32_t yard_settle(const uint8_t *plan, size_t plan_len, uint8_t *image, size_t image_len);
 
 #ifdef __cplusplus

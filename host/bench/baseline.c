@@ -256,7 +256,7 @@ static inline int holds(const Plan *x, const uint8_t *rec, const Lane *lane) {
 
 typedef struct {
   uint16_t chosen[16][16]; /* lowest transition of component and port whose guard holds, plus 1; 0 none */
-  uint64_t enabled, candidates;
+  uint64_t enabled;
 } Moves;
 
 static inline void choose(const Plan *x, const Lane *lane, Moves *m) {
@@ -275,14 +275,13 @@ static inline int enabled(const Plan *x, const Lane *lane, const Moves *m, const
 }
 
 static void moves(const Plan *x, const Lane *lane, Moves *m) {
-  uint64_t all = 0, standing = 0;
   choose(x, lane, m);
-  for (unsigned i = 0; i < x->I; i++) if (enabled(x, lane, m, x->inter + 24 * i)) all |= 1ull << i;
-  for (uint64_t e = all; e; e &= e - 1)
-    if (!(r64(x->rank + 8 * lowest(e)) & all)) standing |= e & -e;
-  m->enabled = all;
-  m->candidates = standing;
+  m->enabled = 0;
+  for (unsigned i = 0; i < x->I; i++) if (enabled(x, lane, m, x->inter + 24 * i)) m->enabled |= 1ull << i;
 }
+
+/* The interactions above i. */
+static inline uint64_t above(const Plan *x, unsigned i) { return r64(x->rank + 8 * i); }
 
 /* The states of the four oracles, laid out as image bytes 8 to 11: the first in the low byte. */
 typedef uint32_t States;
@@ -370,14 +369,18 @@ typedef struct {
   Lane lane;
   Moves moves;
   States oracles;
-  uint64_t marks;
+  uint64_t marks, open; /* open: enabled and not marked */
 } Site;
+
+static States made(const Site *s, unsigned i, Lane *new) {
+  return fire(&s->plan, &s->lane, s->oracles, &s->moves, i, new);
+}
 
 static int marks_ok(const Site *s) {
   Lane new;
-  if (s->marks & ~s->moves.candidates) return 0;
+  if (s->marks & ~s->moves.enabled) return 0;
   for (uint64_t k = s->marks; k; k &= k - 1)
-    if (good(&s->plan, fire(&s->plan, &s->lane, s->oracles, &s->moves, lowest(k), &new))) return 0;
+    if (above(&s->plan, lowest(k)) & s->open || good(&s->plan, made(s, lowest(k), &new))) return 0;
   return 1;
 }
 
@@ -392,6 +395,7 @@ static unsigned enter(Site *s, const uint8_t *plan, size_t plan_len, const uint8
   memcpy(&s->lane, b + 24, 288);
   if (!state_ok(&s->plan, s->oracles, &s->lane)) return 13;
   moves(&s->plan, &s->lane, &s->moves);
+  s->open = s->moves.enabled & ~s->marks;
   return marks_ok(s) ? 0 : 14;
 }
 
@@ -429,7 +433,9 @@ uint32_t base_offered(const uint8_t *plan, size_t plan_len, const uint8_t *image
 uint64_t base_offered_bits(const uint8_t *plan, size_t plan_len, const uint8_t *image, size_t image_len) {
   Site s;
   if (enter(&s, plan, plan_len, image, image_len)) return 0;
-  return s.moves.candidates & ~s.marks;
+  uint64_t offered = 0;
+  for (uint64_t k = s.open; k; k &= k - 1) if (!(above(&s.plan, lowest(k)) & s.open)) offered |= k & -k;
+  return offered;
 }
 
 uint32_t base_try(const uint8_t *plan, size_t plan_len, uint8_t *image, size_t image_len, uint32_t i) {
@@ -439,26 +445,51 @@ uint32_t base_try(const uint8_t *plan, size_t plan_len, uint8_t *image, size_t i
   if (n) return ANSWER(REFUSED, n);
   if (i >= s.plan.I) return ANSWER(REFUSED, 16);
   if (!(s.moves.enabled >> i & 1)) return ANSWER(REFUSED, 17);
-  if (!(s.moves.candidates >> i & 1)) return ANSWER(REFUSED, 18);
+  if (above(&s.plan, i) & s.open) return ANSWER(REFUSED, 18);
   if (s.marks >> i & 1) return ANSWER(REFUSED, 19);
-  States q = fire(&s.plan, &s.lane, s.oracles, &s.moves, i, &new);
+  States q = made(&s, i, &new);
   if (good(&s.plan, q)) { commit(image, q, &new); return ANSWER(COMMITTED, i); }
   s.marks |= 1ull << i;
   memcpy(image + 16, &s.marks, 8);
   return ANSWER(CANCELLED, i);
 }
 
+/* The first found, going up from i, with nothing open above it. */
+static inline unsigned top(const Plan *x, uint64_t open, unsigned i) {
+  for (uint64_t up; (up = above(x, i) & open); i = lowest(up));
+  return i;
+}
+
+/* Those of a set that have a lower number than n and do not lie below it. */
+static inline uint64_t beside(const Plan *x, uint64_t set, unsigned n) {
+  uint64_t rest = 0;
+  for (uint64_t k = set & ((1ull << n) - 1); k; k &= k - 1) if (!(above(x, lowest(k)) >> n & 1)) rest |= k & -k;
+  return rest;
+}
+
+/* Each open move is made at most once before the one that is committed: one without open ones above is judged, a bad one is open no
+   more, and after a good one only what could come before it is left. */
 uint32_t base_settle(const uint8_t *plan, size_t plan_len, uint8_t *image, size_t image_len) {
   Site s;
   Lane new;
   unsigned n = enter(&s, plan, plan_len, image, image_len);
   if (n) return ANSWER(REFUSED, n);
-  for (uint64_t k = s.moves.candidates & ~s.marks; k; k &= k - 1) {
-    unsigned i = lowest(k);
-    States q = fire(&s.plan, &s.lane, s.oracles, &s.moves, i, &new);
-    if (good(&s.plan, q)) { commit(image, q, &new); return ANSWER(COMMITTED, i); }
+  unsigned best = s.plan.I;
+  for (uint64_t left = s.open; left;) {
+    unsigned i = top(&s.plan, s.open, lowest(left));
+    States q = made(&s, i, &new);
+    if (good(&s.plan, q)) {
+      left = beside(&s.plan, left, i);
+      if (i >= best) continue;
+      if (!left) { commit(image, q, &new); return ANSWER(COMMITTED, i); }
+      best = i;
+    } else {
+      s.open &= ~(1ull << i);
+      left &= ~(1ull << i);
+    }
   }
+  if (best < s.plan.I) { States q = made(&s, best, &new); commit(image, q, &new); return ANSWER(COMMITTED, best); }
   if (!s.moves.enabled) return ANSWER(STALLED, 0);
-  memcpy(image + 16, &s.moves.candidates, 8);
+  memcpy(image + 16, &s.moves.enabled, 8);
   return ANSWER(PENNED, 0);
 }

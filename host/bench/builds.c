@@ -1,7 +1,8 @@
 /* Two builds of the library, and a second copy of the old one, timed in turn in one run, best of rounds.
    What copy / old differs from 1 by is placement and noise; new / old is told from it only beyond that,
    and only if it is so again: equal builds have a cell above the greatest copy / old in about every second run.
-   Plans that the old build refuses are left out.
+   Plans that the old build refuses are left out. Cells in which the builds differ are marked and stand in no spread: there they do
+   other work.
    builds ROUNDS PLAN... */
 #define _GNU_SOURCE
 #include "scenes.h"
@@ -16,14 +17,18 @@ static const Engine engines[3] = {ENGINE(old), ENGINE(new), ENGINE(copy)};
 /* new / old or copy / old. */
 static double ratio(const Cell *c, int who) { return c->best[who] / c->best[OLD]; }
 
-static void print_ratios(const Cell *c) { printf(" %.3f, %.3f |", ratio(c, NEW), ratio(c, COPY)); }
+static void print_ratios(const Cell *c) {
+  printf(" %.3f, %.3f%s |", ratio(c, NEW), ratio(c, COPY), c->differ ? ", differ" : "");
+}
 
-/* Prints the least and the greatest ratio of all cells; gives the greatest. */
+static int alike(const Cell *c) { return c->there && !c->differ; }
+
+/* Prints the least and the greatest ratio of all cells in which the builds do not differ; gives the greatest. */
 static double spread(const char *what, int who) {
   double least = 1e18, most = 0;
   for (int k = 0; k < PLANS; k++)
     for (int c = 0; c < COLUMNS; c++) {
-      if (!cells[k][c].there) continue;
+      if (!alike(&cells[k][c])) continue;
       double r = ratio(&cells[k][c], who);
       if (r < least) least = r;
       if (r > most) most = r;
@@ -32,14 +37,14 @@ static double spread(const char *what, int who) {
   return most;
 }
 
-/* The cells whose new / old lies above a limit. */
+/* The cells whose new / old lies above a limit, where the builds do not differ. */
 static void print_above(double limit, int argc, char **argv) {
   int count = 0;
   printf("new / old above %.3f:\n", limit);
   for (int k = 2; k < argc; k++)
     for (int c = 0; c < COLUMNS; c++) {
       const Cell *cell = &cells[k - 2][c];
-      if (!cell->there || ratio(cell, NEW) <= limit) continue;
+      if (!alike(cell) || ratio(cell, NEW) <= limit) continue;
       printf("  %s, %s: %.3f\n", basename(argv[k]), columns[c], ratio(cell, NEW));
       count++;
     }
@@ -65,5 +70,7 @@ int main(int argc, char **argv) {
   printf("\n");
   spread("new / old", NEW);
   print_above(spread("copy / old", COPY), argc, argv);
+  printf("new and old:\n");
+  if (!print_differing(argc, argv)) printf("  alike\n");
   return 0;
 }

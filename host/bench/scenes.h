@@ -35,8 +35,8 @@ static const char *const columns[COLUMNS] = {
 /* A try begins from the image each time (its copying is timed too); settling goes on from where it stopped. */
 typedef struct { enum column column; uint8_t image[IMAGE]; uint32_t number; } Job;
 
-/* there: whether the plan has this job. best: ns a call of each engine. */
-typedef struct { int there; Job job; double best[ENGINES]; } Cell;
+/* there: whether the plan has this job. differ: whether the engines' answers or images did. best: ns a call of each engine. */
+typedef struct { int there, differ; Job job; double best[ENGINES]; } Cell;
 
 static Plan plans[PLANS];
 static Cell cells[PLANS][COLUMNS];
@@ -87,21 +87,17 @@ static __attribute__((noinline)) uint64_t repeat_at(int depth, const Engine *e, 
   return repeat(e, p, job, b, times);
 }
 
-static void differ(const char *what) {
-  printf("\n%s differ\n", what);
-  exit(1);
-}
-
 /* Who has this turn of n in round r: the first moves on by one each round, the direction turns after n rounds. */
 static int whose(int n, int r, int turn) {
   return r / n % 2 ? (r + n - turn) % n : (r + turn) % n;
 }
 
-/* Lowers best to the best ns a call of each of n engines, which must answer alike and leave the same image,
-   in the rounds from one to before another. */
-static void time_job(const Engine *e, int n, const Plan *p, const Job *job, int from, int to, double *best) {
+/* Lowers the cell's best to the best ns a call of each of n engines, in the rounds from one to before another, and notes whether they
+   differ: those that do go on from images of their own. */
+static void time_job(const Engine *e, int n, const Plan *p, int from, int to, Cell *cell) {
   static Image b[ENGINES];
   uint64_t sum[ENGINES];
+  const Job *job = &cell->job;
   unsigned times = batch(e, p, job);
   for (int k = 0; k < n; k++) memcpy(b[k].bytes, job->image, IMAGE);
   for (int r = from; r < to; r++) {
@@ -110,12 +106,9 @@ static void time_job(const Engine *e, int n, const Plan *p, const Job *job, int 
       double begin = now();
       sum[who] = repeat_at(r % DEPTHS, &e[who], p, job, b[who].bytes, times);
       double took = (now() - begin) / times;
-      if (took < best[who]) best[who] = took;
+      if (took < cell->best[who]) cell->best[who] = took;
     }
-    for (int k = 1; k < n; k++) {
-      if (sum[k] != sum[0]) differ("answers");
-      if (memcmp(b[k].bytes, b[0].bytes, IMAGE)) differ("images");
-    }
+    for (int k = 1; k < n; k++) cell->differ |= sum[k] != sum[0] || memcmp(b[k].bytes, b[0].bytes, IMAGE);
   }
 }
 
@@ -158,13 +151,14 @@ static void load(const char *path, Plan *p) {
 static void make_cells(const Plan *p, Cell *row) {
   for (int c = 0; c < COLUMNS; c++) {
     row[c].there = make_job(p, c, &row[c].job);
+    row[c].differ = 0;
     for (int k = 0; k < ENGINES; k++) row[c].best[k] = 1e18;
   }
 }
 
 static void time_cells(const Engine *e, int n, const Plan *p, int from, int to, Cell *row) {
   for (int c = 0; c < COLUMNS; c++)
-    if (row[c].there) time_job(e, n, p, &row[c].job, from, to, row[c].best);
+    if (row[c].there) time_job(e, n, p, from, to, &row[c]);
 }
 
 /* Fills the cells for the arguments ROUNDS PLAN..., in passes; gives the rounds of each. */
@@ -178,6 +172,18 @@ static int measure(const Engine *e, int n, int argc, char **argv) {
   for (int from = 0; from < PASSES * rounds; from += rounds)
     for (int k = 0; k < count; k++) time_cells(e, n, &plans[k], from, from + rounds, cells[k]);
   return PASSES * rounds;
+}
+
+/* Prints a line for each cell in which the engines differ; gives how many there are. */
+static int print_differing(int argc, char **argv) {
+  int count = 0;
+  for (int k = 2; k < argc; k++)
+    for (int c = 0; c < COLUMNS; c++) {
+      if (!cells[k - 2][c].differ) continue;
+      printf("  %s, %s: answers or images differ\n", basename(argv[k]), columns[c]);
+      count++;
+    }
+  return count;
 }
 
 static void print_table(int argc, char **argv, void (*print)(const Cell *)) {

@@ -22,6 +22,7 @@ static void print_times(const Cell *c) {
 
 int main(int argc, char **argv) {
   int rounds = measure(engines, 2, argc, argv);
+  if (print_differing(argc, argv)) return 1;
   machine();
   printf("Nanoseconds a call, yard / C = ratio, best of %d rounds.\n\n", rounds);
   print_table(argc, argv, print_times);

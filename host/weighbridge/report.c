@@ -29,7 +29,7 @@ static const char *const refusals[] = {
     "the starting state of the plan is bad (ask the site)",
     "the plan has no move of this number (choose another)",
     "the move is not enabled now (choose another)",
-    "a move of higher rank is enabled (choose another)",
+    "a move of higher rank is enabled and not marked (choose another)",
     "the move was tried in this state and ends badly (choose another)",
     "an added oracle of the plan is faulty (ask the planner)",
 };
@@ -57,7 +57,7 @@ void report_answer(uint32_t answer, const char *accepted)
         puts("stalled: no move is enabled");
         break;
     case YARD_PENNED:
-        puts("penned: every move on hand ends badly and is now marked");
+        puts("penned: every enabled move ends badly and is now marked");
         break;
     case YARD_REFUSED:
         report_refusal(number);

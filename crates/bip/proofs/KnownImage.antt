@@ -27,7 +27,7 @@ pub record Known (p : Plan) (b : Image) : Type 0 where
   pub long : length b ≡ imageLength
   pub sound : Sound p (configurationOf b)
   pub low : (i : ℕ) → i < interactions p → i < 64
-  pub marked : (i : ℕ) → i < interactions p → bit (marksOf b) i ≡ true → MarkKept p (configurationOf b) i
+  pub marked : (i : ℕ) → i < interactions p → bit (marksOf b) i ≡ true → MarkKept p (configurationOf b) (bit (marksOf b)) i
 
 pub known : (p : Plan) (b : Image) → Kept (planRules p ++ imageRules p b) → Known p b
 known p b kept =

@@ -1,11 +1,12 @@
 -- The disabler (002 section 6.6, definition 22), and the system supervised by monitor and disabler (definition 23). They cite the monitor's composition
--- (definition 16), and of the engine's meaning the record of a configuration alone.
+-- (definition 16), the priority rule (definition 8) over 01's choice, and of the engine's meaning the record of a configuration alone.
 use mathlib.Core.Path.{_≡_}
 use Prim.Native.Nat.{ℕ}
 use mathlib.Core.Bool.{Bool, true, false, cond}
 use lib.Dec.{eqb}
 use Rattle.semantics.specs.Plan.{Plan}
 use Rattle.semantics.specs.Move.{Configuration}
+use Rattle.bip.specs.Steps.{Chosen, Ranked}
 use Rattle.bip.specs.Monitor.{Label, did, ε, System, Monitored}
 
 -- Definition 22, X: enab, an array of Booleans with an element for each interaction, and id, the interaction last received.
@@ -38,16 +39,22 @@ pub record Supervised : Type 0 where
 abbrev pub supervised : Configuration → Disabler → Supervised
 supervised c d = record { configuration = c; disabler = d }
 
+-- The system as the disabler leaves it: the steps of the interactions that it has enabled.
+abbrev pub Undisabled : Plan → Disabler → System
+Undisabled p d q i q' = Chosen p q i q' × (d .enab i ≡ true)
+
+-- Definition 8 over these. 002 disables before it ranks (remark 7), so a disabled interaction no longer outranks; 02, job 3, has the same.
+abbrev pub RankedUnder : Plan → Disabler → System
+RankedUnder p d = Ranked p (Undisabled p d)
+
 -- Definition 23 for the interaction i, as one step: 002 prints connectors and priorities that let nothing come between. The interaction is done together with
--- its port of the disabler; then a commit takes the disabler's continue port (γ^c2), a cancel its recovery port (γ^r2). 01 ranks before it disables:
--- `system` is ranked, and a disabled interaction still outranks. 002 disables before it ranks (remark 7), and names as the other way to disable all that lie
--- below a disabled one too: what 01 answers by 18.
-pub data SupervisedStep (p : Plan) (system : System) (i : ℕ) : Supervised → Label → Supervised → Type 0 where
-  continued : {c c' : Configuration} {d d₁ d₂ : Disabler} → Disables d (interaction i) d₁ → Monitored p system i c (did i) c' → Disables d₁ continue d₂
-      → SupervisedStep p system i (supervised c d) (did i) (supervised c' d₂)
-  recovered : {c c' : Configuration} {d d₁ d₂ : Disabler} → Disables d (interaction i) d₁ → Monitored p system i c ε c' → Disables d₁ recovery d₂
-      → SupervisedStep p system i (supervised c d) ε (supervised c' d₂)
+-- its port of the disabler; then a commit takes the disabler's continue port (γ^c2), a cancel its recovery port (γ^r2).
+pub data SupervisedStep (p : Plan) (i : ℕ) : Supervised → Label → Supervised → Type 0 where
+  continued : {c c' : Configuration} {d d₁ d₂ : Disabler} → Disables d (interaction i) d₁ → Monitored p (RankedUnder p d) i c (did i) c' → Disables d₁ continue d₂
+      → SupervisedStep p i (supervised c d) (did i) (supervised c' d₂)
+  recovered : {c c' : Configuration} {d d₁ d₂ : Disabler} → Disables d (interaction i) d₁ → Monitored p (RankedUnder p d) i c ε c' → Disables d₁ recovery d₂
+      → SupervisedStep p i (supervised c d) ε (supervised c' d₂)
 
 -- A step of the supervised system: of some interaction.
-abbrev pub SupervisedMove : Plan → System → Supervised → Label → Supervised → Type 0
-SupervisedMove p system s l s' = (i : ℕ) × SupervisedStep p system i s l s'
+abbrev pub SupervisedMove : Plan → Supervised → Label → Supervised → Type 0
+SupervisedMove p s l s' = (i : ℕ) × SupervisedStep p i s l s'

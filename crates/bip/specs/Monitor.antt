@@ -10,7 +10,7 @@ use Rattle.semantics.specs.Bytes.{bit}
 use Rattle.semantics.specs.Plan.{Plan, maxOracles, propositions, oracles, startStates, letters, propositionOf, verdict, next}
 use Rattle.semantics.specs.Code.{State, guardHolds}
 use Rattle.semantics.specs.Move.{Configuration}
-use Rattle.bip.specs.Steps.{EngineStep, Init, Path, Trace, endOf}
+use Rattle.bip.specs.Steps.{Below, Chosen, Ranked, Init, Path, Trace, endOf}
 use Rattle.bip.specs.Property.{Property}
 
 -- ---- events: 000 section 4.3
@@ -112,6 +112,32 @@ pub data Monitored (p : Plan) (system : System) (i : ℕ) : Configuration → La
 abbrev pub MonitoredStep : Plan → System → Configuration → Label → Configuration → Type 0
 MonitoredStep p system c l d = (i : ℕ) × Monitored p system i c l d
 
+-- ---- the engine: enforced, then ranked (02, job 3)
+
+-- The monitor's commits: rule 2, of the system by 01's choice.
+abbrev pub CommitStep : Plan → Configuration → ℕ → Configuration → Type 0
+CommitStep p c i d = Monitored p (Chosen p) i c (did i) d
+
+-- What the monitor takes back: rule 3.
+abbrev pub CancelStep : Plan → Configuration → ℕ → Configuration → Type 0
+CancelStep p c i d = Monitored p (Chosen p) i c ε d
+
+-- Definition 8 over the monitor's commits: a commit, and no interaction above it has one. The papers rank the system and then compose it with the monitor, so
+-- that what the monitor forbids still outranks.
+abbrev pub RankedCommit : Plan → Configuration → ℕ → Configuration → Type 0
+RankedCommit p = Ranked p (CommitStep p)
+
+-- Its premise alone: no interaction above i has a commit.
+abbrev pub NoneAbove : Plan → Configuration → ℕ → Type 0
+NoneAbove p c i = (j : ℕ) (d : Configuration) → Below p i j → CommitStep p c j d → ⊥
+
+-- A step that the engine takes: a commit or a cancelled move, above which nothing commits.
+pub data EngineStep (p : Plan) : Configuration → Label → Configuration → Type 0 where
+  does : {c d : Configuration} {i : ℕ} → RankedCommit p c i d → EngineStep p c (did i) d
+  undoes : {c d : Configuration} {i : ℕ} → CancelStep p c i d → NoneAbove p c i → EngineStep p c ε d
+
+-- ---- beginnings, traces and runs
+
 -- 01: "The oracle also reads the starting state's event (000), so a run begins judged"; 000 section 5.5, remark 2, has the monitor evaluate the initial
 -- state.
 pub record Begins (p : Plan) (c : Configuration) : Type 0 where
@@ -164,11 +190,11 @@ pub record AllowedRun (p : Plan) (system : System) (q : State) (first : Letter p
   pub shows : Shows p trace events
   pub in-property : Denotes p (first ∷ events)
 
--- A run of the ranked system by 01's choice, from a judged beginning to the state q', that stays in the oracles' property.
-pub record EngineRun (p : Plan) (is : List ℕ) (q' : State) : Type 0 where
+-- A run of the engine: from a judged beginning, commits under the priority rule over commits, to the configuration c'.
+pub record EngineRun (p : Plan) (is : List ℕ) (c' : Configuration) : Type 0 where
   pub first : Configuration
   pub begins : Begins p first
-  pub run : AllowedRun p (EngineStep p) (first .state) (begins .first-event) is q'
+  pub steps : Path (RankedCommit p) first is c'
 
 -- 002 proposition 3, simulation: its three conditions on a relation R between the composition's states and the system's
 pub record Simulates (p : Plan) (system : System) (R : Configuration → State → Type 0) (r₀ : Configuration) (s₀ : State) : Type 0 where

@@ -1,5 +1,5 @@
 -- BIP's steps as the papers print them: of an atomic component (001 and 002, definition 3), of a composite one (definition 7), under priorities
--- (definition 8), and runs (001, definition 12). Of the engine's meaning they cite the fields of a plan and the evaluator of code alone.
+-- (definition 8, over any steps), and runs (001, definition 12). Of the engine's meaning they cite the fields of a plan and the evaluator of code alone.
 use mathlib.Core.Path.{_≡_}
 use mathlib.Core.Logic.{_⊎_}
 use Prim.Native.Nat.{ℕ, _≤_, _<_}
@@ -98,9 +98,10 @@ pub data Composite (p : Plan) (q : State) (i : ℕ) (q' : State) : Type 0 where
 abbrev pub Below : Plan → ℕ → ℕ → Type 0
 Below p i j = below p i j ≡ true
 
--- The rule: a step q →a q', and no a' above a has a step.
-pub data Ranked (p : Plan) (q : State) (i : ℕ) (q' : State) : Type 0 where
-  ranked : Composite p q i q' → ((j : ℕ) (q'' : State) → Below p i j → Composite p q j q'' → ⊥) → Ranked p q i q'
+-- The rule, over the steps of a system: a step q →a q', and no a' above a has a step. The papers print it over the steps of definition 7; 02, job 3, has it
+-- over the monitor's commits (`RankedCommit`), and for a try over what the disabler leaves (`RankedUnder`).
+pub data Ranked (p : Plan) {S : Type 0} (step : S → ℕ → S → Type 0) (q : S) (i : ℕ) (q' : S) : Type 0 where
+  ranked : step q i q' → ((j : ℕ) (q'' : S) → Below p i j → step q j q'' → ⊥) → Ranked p step q i q'
 
 -- ---- 01's choice
 
@@ -110,15 +111,10 @@ pub record ByLowest (p : Plan) (q : State) (i : ℕ) (q' : State) (c : ℕ) : Ty
   pub takes : Takes p c (portIn p i c) transition (component p q c) (received p q i c) (component p q' c)
   pub lowest : (t : ℕ) → t < transition → Able p c (portIn p i c) t (component p q c) → ⊥
 
--- A step of definition 7 in which each component uses its lowest transition.
+-- A step of definition 7 in which each component uses its lowest transition: the system that the engine runs.
 pub record Chosen (p : Plan) (q : State) (i : ℕ) (q' : State) : Type 0 where
   pub step : Composite p q i q'
   pub picks : (c : ℕ) → c < components p → takesPart p i c ≡ true → ByLowest p q i q' c
-
--- The system that the engine runs: the steps of definition 8 by 01's choice.
-pub record EngineStep (p : Plan) (q : State) (i : ℕ) (q' : State) : Type 0 where
-  pub ranked-step : Ranked p q i q'
-  pub chosen-step : Chosen p q i q'
 
 -- ---- systems and runs: 001 definitions 9 and 12
 
@@ -144,8 +140,9 @@ unfoldable pub endOf : {S L : Type 0} → S → List (L × S) → S
 endOf s [] = s
 endOf s (m ∷ σ) = endOf (m .1) σ
 
--- Definition 12: a run of length m is q^0 = Init and m steps under the priorities; `is` are its interactions, q its last state.
-pub record RankedRun (p : Plan) (is : List ℕ) (q : State) : Type 0 where
+-- Definition 12: a run of length m is q^0 = Init and m steps; `is` are its interactions, q its last state. Definition 12 has the steps under the priorities; here
+-- these are ranked over the monitor's commits (`EngineRun`).
+pub record CompositeRun (p : Plan) (is : List ℕ) (q : State) : Type 0 where
   pub first : State
   pub begins : Init p first
-  pub steps : Path (Ranked p) first is q
+  pub steps : Path (Composite p) first is q

@@ -2,3 +2,4 @@ pub mod ChoiceLaws
 pub mod MaskLaws
 pub mod PlanLaws
 pub mod PartLaws
+pub mod ClimbLaws

@@ -1,4 +1,4 @@
--- Building the mask of enabled interactions from the table of choices, and walking it for those that are not outranked.
+-- Building the mask of enabled interactions from the table of choices, and walking a mask for the numbers that pass a test, as those that are not outranked.
 use mathlib.Core.Path.{_≡_, refl, sym, ap, ap₂, _∙_}
 use Prim.Native.Nat.{ℕ, _+_, _*_, _^_, _≤_, _<_}
 use native.Mathlib.Nat.{le-trans}
@@ -12,9 +12,9 @@ use Rattle.semantics.specs.Plan.{Plan, components, transitions, interactions, p
 use Rattle.semantics.specs.Code.{State, guardHolds}
 use Rattle.semantics.specs.Rules.{rankOk, planRefusal}
 use Rattle.semantics.specs.Move.{chosenIn, enabled, outranked, eligible}
-use Rattle.semantics.proofs.Basics.{bool-cases, absurd-bool, and-both, both-and, or-right, implies-at, each, ltb-true, ltb-false, eqb-true, eq-eqb, ne-eqb, every-at, or-no, every-same, some-wider, some-same}
+use Rattle.semantics.proofs.Basics.{bool-cases, absurd-bool, and-both, both-and, or-right, implies-at, each, ltb-true, ltb-false, eqb-true, eq-eqb, ne-eqb, every-at, or-no, every-same, some-wider}
 use Rattle.semantics.proofs.Masks.{bit-zero, bit-mask, bit-mask-over, mask-wider, mask-same, mask-none}
-use Rattle.semantics.proofs.Ranking.{eligible-in}
+use Rattle.semantics.proofs.Ranking.{outranked-in}
 use Rattle.semantics.proofs.AcceptedPlan.{accepted-plan}
 use Rattle.words.proofs.BitLaws.{bit-above, lowest-set}
 use Rattle.layout.proofs.Sections.{laid-accepted}
@@ -73,28 +73,24 @@ row-outranks p m i h l =
         let w : k < interactions p = ltb-true _ _ (implies-at (below p i k) (ltb k (interactions p)) r e) in
         omega arith
 
--- ---- the walk over a mask
+-- ---- a walk over a mask that gathers the numbers at which a test holds
 
--- The standing interactions of m that the walk has passed, when left is what is left of m.
-unfoldable pub passed : Plan → ℕ → ℕ → ℕ
-passed p m left = mask (interactions p) (λ j. stands p m j && not (bit left j))
+-- The numbers below n at which f holds and that the walk has passed: they are not in what is left.
+unfoldable pub passed : ℕ → (ℕ → Bool) → ℕ → ℕ
+passed n f left = mask n (λ j. f j && not (bit left j))
 
-stands-in : (p : Plan) (m j : ℕ) → stands p m j ≡ true → bit m j ≡ true
-unfolding stands
-stands-in p m j e = each _ e .0
-
-pub passed-none : (p : Plan) (m : ℕ) → 0 ≡ passed p m m
+-- the walk begins: f holds nowhere outside the mask
+pub passed-none : (n m : ℕ) (f : ℕ → Bool) → ((j : ℕ) → f j ≡ true → bit m j ≡ true) → 0 ≡ passed n f m
 unfolding passed
-passed-none p m =
-    sym (mask-same (interactions p) (λ j. false) (λ j. stands p m j && not (bit m j)) (λ k l. neither-in k) ∙ mask-none (interactions p))
+passed-none n m f inside = sym (mask-same n (λ j. false) (λ j. f j && not (bit m j)) (λ k l. neither-in k) ∙ mask-none n)
   where
-    neither-in : (k : ℕ) → (stands p m k && not (bit m k)) ≡ false
-    neither-in k = bool-cases (stands p m k) (λ e. rw (e, stands-in p m k e) refl) (λ e. rw e refl)
+    neither-in : (k : ℕ) → (f k && not (bit m k)) ≡ false
+    neither-in k = bool-cases (f k) (λ e. rw (e, inside k e) refl) (λ e. rw e refl)
 
-pub passed-all : (p : Plan) (m : ℕ) → passed p m 0 ≡ standing p m
-unfolding passed standing
-passed-all p m =
-    mask-same (interactions p) (stands p m) (λ j. stands p m j && not (bit 0 j)) (λ k l. ap (λ (b : Bool). stands p m k && not b) (bit-zero k) ∙ and-true (stands p m k))
+-- the walk ends: nothing is left
+pub passed-all : (n : ℕ) (f : ℕ → Bool) → passed n f 0 ≡ mask n f
+unfolding passed
+passed-all n f = mask-same n f (λ j. f j && not (bit 0 j)) (λ k l. ap (λ (b : Bool). f k && not b) (bit-zero k) ∙ and-true (f k))
 
 -- the lowest bit of what is left is in it
 pub lowest-held : (left i : ℕ) → i ≡ lowest 64 (bit left) → left < 2 ^ 64 → 0 < left → bit left i ≡ true
@@ -105,39 +101,44 @@ pub held-inside : (n m i : ℕ) → m < 2 ^ n → bit m i ≡ true → i < n
 held-inside n m i h e = bool-cases (ltb i n) (ltb-true _ _) (λ q. absurd-bool e (bit-above n m i h (ltb-false _ _ q)))
 
 -- bit i leaves what is left: its next
-module _ (p : Plan) (m left next i : ℕ) (cut : (j : ℕ) → bit next j ≡ (bit left j && not (eqb j i))) where
-  pub still-inside : ((j : ℕ) → bit left j ≡ true → bit m j ≡ true) → (j : ℕ) → bit next j ≡ true → bit m j ≡ true
-  still-inside inside j e = inside j (and-both (bit left j) (not (eqb j i)) (sym (cut j) ∙ e) .0)
+module _ (n : ℕ) (f : ℕ → Bool) (left next i : ℕ) (cut : (j : ℕ) → bit next j ≡ (bit left j && not (eqb j i))) where
+  pub still-inside : (m : ℕ) → ((j : ℕ) → bit left j ≡ true → bit m j ≡ true) → (j : ℕ) → bit next j ≡ true → bit m j ≡ true
+  still-inside m inside j e = inside j (and-both (bit left j) (not (eqb j i)) (sym (cut j) ∙ e) .0)
 
   -- what the walk has passed at another bit
-  elsewhere : (k : ℕ) → eqb k i ≡ false → (stands p m k && not (bit left k)) ≡ (stands p m k && not (bit next k))
-  elsewhere k e =
-      let q : bit next k ≡ bit left k = cut k ∙ rw e (and-true (bit left k)) in ap (λ (b : Bool). stands p m k && not b) (sym q)
+  elsewhere : (k : ℕ) → eqb k i ≡ false → (f k && not (bit left k)) ≡ (f k && not (bit next k))
+  elsewhere k e = let q : bit next k ≡ bit left k = cut k ∙ rw e (and-true (bit left k)) in ap (λ (b : Bool). f k && not b) (sym q)
 
-  -- bit i stands
-  pub passed-yes : i < interactions p → interactions p ≤ 64 → stands p m i ≡ true → withBit (passed p m left) i ≡ passed p m next
+  -- the test holds at i
+  pub passed-yes : i < n → n ≤ 64 → f i ≡ true → withBit (passed n f left) i ≡ passed n f next
   unfolding withBit passed
   passed-yes l w y =
-      mask-wider (interactions p) 64 (λ j. stands p m j && not (bit next j)) (λ j. bit (passed p m left) j || eqb j i) w
-      (λ k n. ap (λ (b : Bool). b || eqb k i) (bit-mask (interactions p) (λ j. stands p m j && not (bit left j)) k n)
+      mask-wider n 64 (λ j. f j && not (bit next j)) (λ j. bit (passed n f left) j || eqb j i) w
+      (λ k h. ap (λ (b : Bool). b || eqb k i) (bit-mask n (λ j. f j && not (bit left j)) k h)
       ∙ bool-cases (eqb k i) (taken k) (λ e. or-no _ (eqb k i) e ∙ elsewhere k e))
-      (λ k n o. or-no (bit (passed p m left) k) (eqb k i) (ne-eqb k i (over k n)) ∙ bit-mask-over (interactions p) (λ j. stands p m j && not (bit left j)) k n)
+      (λ k h o. or-no (bit (passed n f left) k) (eqb k i) (ne-eqb k i (over k h)) ∙ bit-mask-over n (λ j. f j && not (bit left j)) k h)
     where
-      over : (k : ℕ) → interactions p ≤ k → k ≡ i → ⊥
-      over k n e = omega arith
+      over : (k : ℕ) → n ≤ k → k ≡ i → ⊥
+      over k h e = omega arith
 
       gone : (k : ℕ) → eqb k i ≡ true → bit next k ≡ false
       gone k e = cut k ∙ rw e (and-false (bit left k))
 
-      taken : (k : ℕ) → eqb k i ≡ true → ((stands p m k && not (bit left k)) || eqb k i) ≡ (stands p m k && not (bit next k))
-      taken k e = or-right (stands p m k && not (bit left k)) (eqb k i) e ∙ sym (both-and (ap (stands p m) (eqb-true k i e) ∙ y) (ap not (gone k e)))
+      taken : (k : ℕ) → eqb k i ≡ true → ((f k && not (bit left k)) || eqb k i) ≡ (f k && not (bit next k))
+      taken k e = or-right (f k && not (bit left k)) (eqb k i) e ∙ sym (both-and (ap f (eqb-true k i e) ∙ y) (ap not (gone k e)))
 
-  -- bit i does not stand
-  pub passed-no : stands p m i ≡ false → passed p m left ≡ passed p m next
+  -- it does not hold there
+  pub passed-no : f i ≡ false → passed n f left ≡ passed n f next
   unfolding passed
   passed-no y =
-      mask-same (interactions p) (λ j. stands p m j && not (bit next j)) (λ j. stands p m j && not (bit left j))
-      (λ k n. bool-cases (eqb k i) (λ e. rw (ap (stands p m) (eqb-true k i e) ∙ y) refl) (elsewhere k))
+      mask-same n (λ j. f j && not (bit next j)) (λ j. f j && not (bit left j))
+      (λ k h. bool-cases (eqb k i) (λ e. rw (ap f (eqb-true k i e) ∙ y) refl) (elsewhere k))
+
+-- ---- what stands
+
+pub stands-in : (p : Plan) (m j : ℕ) → stands p m j ≡ true → bit m j ≡ true
+unfolding stands
+stands-in p m j e = each _ e .0
 
 pub stands-yes : (p : Plan) (m i : ℕ) → bit m i ≡ true → some-below (interactions p) (λ j. below p i j && bit m j) ≡ false → stands p m i ≡ true
 unfolding stands allOf
@@ -147,10 +148,18 @@ pub stands-no : (p : Plan) (m i : ℕ) → some-below (interactions p) (λ j. be
 unfolding stands allOf
 stands-no p m i e = rw e (and-false (bit m i))
 
--- ---- the meaning: what stands in the mask of the enabled is eligible
+-- ---- the meaning: what stands in the mask of the enabled, unmarked interactions is on offer
 
-pub standing-eligible : (p : Plan) (s : State) → standing p (mask (interactions p) (enabled p s)) ≡ mask (interactions p) (eligible p s)
-unfolding standing stands
-standing-eligible p s =
-    mask-same (interactions p) (eligible p s) (stands p (mask (interactions p) (enabled p s)))
-    (λ k l. eligible-in p s k (mask (interactions p) (enabled p s)) (bit-mask (interactions p) (enabled p s)) l)
+pub standing-offered : (p : Plan) (s : State) (marked : ℕ → Bool) (m : ℕ) → ((j : ℕ) → j < interactions p → bit m j ≡ (enabled p s j && not (marked j)))
+    → standing p m ≡ mask (interactions p) (λ i. allOf (eligible p s marked i ∷ not (marked i) ∷ []))
+unfolding standing stands eligible allOf
+standing-offered p s marked m e =
+    mask-same (interactions p) (λ i. allOf (eligible p s marked i ∷ not (marked i) ∷ [])) (stands p m)
+    (λ k l. ap₂ (λ (x y : Bool). allOf (x ∷ not y ∷ [])) (e k l) (outranked-in p s marked k m e) ∙ swap (enabled p s k) (not (marked k)) (outranked p s marked k))
+  where
+    swap : (a b o : Bool) → allOf ((a && b) ∷ not o ∷ []) ≡ allOf (allOf (a ∷ not o ∷ []) ∷ b ∷ [])
+    swap true true true = refl
+    swap true true false = refl
+    swap true false true = refl
+    swap true false false = refl
+    swap false b o = refl

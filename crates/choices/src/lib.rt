@@ -1,3 +1,3 @@
-// Which transition each component would use, and which interactions are enabled and eligible.
+// Which transition each component would use, which interactions are enabled, and how those of a mask are ranked.
 pub mod choice;
 pub mod masks;

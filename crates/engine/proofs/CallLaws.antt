@@ -1,26 +1,26 @@
 -- What each call answers and leaves, from the refusal of plan and image and the tests that come after it.
 use mathlib.Core.Path.{_≡_, refl, sym, ap, _∙_}
-use Prim.Native.Nat.{ℕ, _-_, _^_, _≤_, _<_}
-use mathlib.Core.Bool.{Bool, true, false, not}
-use mathlib.Core.List.{[], _∷_, _++_}
-use native.Mathlib.Nat.{le-trans, lt-of-le-of-lt}
+use Prim.Native.Nat.{ℕ, _^_, _≤_, _<_}
+use mathlib.Core.Bool.{true, false, not, _&&_}
+use mathlib.Core.List.{_++_}
+use native.Mathlib.Nat.{le-trans}
 use lib.Dec.{eqb}
-use lib.Bits.{bitAnd, and-le-l}
-use Rattle.semantics.specs.Bytes.{allOf, some-below, lowest, bit, mask, withBit}
-use Rattle.semantics.specs.Plan.{Plan, maxInteractions, interactions}
+use Rattle.semantics.specs.Bytes.{some-below, bit, mask, withBit}
+use Rattle.semantics.specs.Plan.{Plan, maxInteractions, interactions, below}
 use Rattle.semantics.specs.Refusal.{unless, refusal}
 use Rattle.semantics.specs.Rules.{planRules}
-use Rattle.semantics.specs.Move.{enabled, outranked, eligible, after, good, mayCommit, safeMove}
+use Rattle.semantics.specs.Move.{enabled, outranked, after, good, safeMove}
 use Rattle.semantics.specs.Image.{Image, image, withMarks, marksOf, configurationOf, lengthRule, imageRules}
 use Rattle.semantics.specs.Calls.{Answer, offers, committed, cancelled, stalled, penned, refused, Outcome, outcome, unlessRefused, clerkRules, offeredMask, tried, settled, Call, offered, try, settle, callRules, performed, called}
-use Rattle.semantics.proofs.Basics.{bool-cases, absurd-bool, same-test, each, all-of, lt-ltb, le-ltb, eq-eqb, ne-eqb}
+use Rattle.semantics.proofs.Basics.{bool-cases, absurd-bool, and-both, both-and, lt-ltb, le-ltb, eq-eqb, ne-eqb}
 use Rattle.semantics.proofs.Masks.{bit-mask, mask-lt, mask-holds}
 use Rattle.semantics.proofs.Refusing.{numbered, none-refused, refusal-after, refused-first}
 use Rattle.semantics.proofs.AcceptedPlan.{accepted-plan, counts-of}
 use Rattle.semantics.proofs.LawfulImage.{LawfulImage, lawful-image, marks-kept}
-use Rattle.semantics.proofs.Ranking.{eligible-enabled, eligible-top, enabled-outranked, commit-eligible, commit-good, commit-from, safe-is}
-use Rattle.words.proofs.BitLaws.{mask-is, bit-and, bit-not, any-bit}
-use Rattle.words.proofs.TestLaws.{both-hold}
+use Rattle.semantics.proofs.Ranking.{outranked-in}
+use Rattle.words.proofs.BitLaws.{any-bit}
+use Rattle.choices.specs.Choices.{standing}
+use Rattle.choices.proofs.MaskLaws.{standing-offered}
 use Rattle.engine.proofs.Refusals.{unless-refused-some}
 
 -- an outcome's two parts
@@ -74,14 +74,11 @@ module _ (p : Plan) (b : Image) where
       try-disabled n = called-try i 17 (rw (lt-ltb i (interactions p) l, n))
 
       module _ (n : enabled p (configurationOf b .state) i ≡ true) where
-        pub try-outranked : eligible p (configurationOf b .state) i ≡ false → called p b (try i) ≡ outcome (refused 18) b
+        pub try-outranked : outranked p (configurationOf b .state) (bit (marksOf b)) i ≡ true → called p b (try i) ≡ outcome (refused 18) b
         unfolding clerkRules refusal unless unlessRefused
-        try-outranked q = called-try i 18 (rw (lt-ltb i (interactions p) l, n, enabled-outranked p (configurationOf b .state) i n q))
+        try-outranked q = called-try i 18 (rw (lt-ltb i (interactions p) l, n, q))
 
-        module _ (q : eligible p (configurationOf b .state) i ≡ true) where
-          top : outranked p (configurationOf b .state) i ≡ false
-          top = eligible-top p (configurationOf b .state) i q
-
+        module _ (top : outranked p (configurationOf b .state) (bit (marksOf b)) i ≡ false) where
           pub try-marked : bit (marksOf b) i ≡ true → called p b (try i) ≡ outcome (refused 19) b
           unfolding clerkRules refusal unless unlessRefused
           try-marked m = called-try i 19 (rw (lt-ltb i (interactions p) l, n, top, m))
@@ -103,65 +100,37 @@ module _ (p : Plan) (b : Image) where
 
     -- ---- the moves on offer
 
-    open-mask : marksOf b < 2 ^ 64
-        → bitAnd (mask (interactions p) (eligible p (configurationOf b .state))) (2 ^ 64 - 1 - marksOf b) ≡ offeredMask p b
-    unfolding offeredMask
-    open-mask h =
-        let s = configurationOf b .state in
-        let i : interactions p ≤ maxInteractions = few in
-        mask-is (interactions p) (bitAnd (mask (interactions p) (eligible p s)) (2 ^ 64 - 1 - marksOf b))
-        (λ j. allOf (eligible p s j ∷ not (bit (marksOf b) j) ∷ []))
-        (lt-of-le-of-lt (and-le-l (mask (interactions p) (eligible p s)) (2 ^ 64 - 1 - marksOf b)) (mask-lt (interactions p) (eligible p s)))
-        (λ j l. bit-and (mask (interactions p) (eligible p s)) (2 ^ 64 - 1 - marksOf b) j
-        ∙ rw (bit-mask (interactions p) (eligible p s) j l, bit-not 64 (marksOf b) j h (le-trans l i)) (both-hold (eligible p s j) (not (bit (marksOf b) j))))
+    -- o: the mask of the enabled interactions that are not marked
+    module _ (o : ℕ) (w : o ≡ mask (interactions p) (λ j. enabled p (configurationOf b .state) j && not (bit (marksOf b) j))) where
+      open-bit : (j : ℕ) → j < interactions p → bit o j ≡ (enabled p (configurationOf b .state) j && not (bit (marksOf b) j))
+      open-bit j l = ap (λ (m : ℕ). bit m j) w ∙ bit-mask (interactions p) (λ j. enabled p (configurationOf b .state) j && not (bit (marksOf b) j)) j l
 
-    -- the mask `eligible & !marks`
-    pub offer-mask : (m k : ℕ) → m ≡ mask (interactions p) (eligible p (configurationOf b .state)) → k ≡ marksOf b → k < 2 ^ 64 → bitAnd m (2 ^ 64 - 1 - k) ≡ offeredMask p b
-    offer-mask m k q r h = rw (q, r) (open-mask (rw r at h))
+      -- those above which none of them lies are on offer
+      pub offer-mask : standing p o ≡ offeredMask p b
+      unfolding offeredMask
+      offer-mask = standing-offered p (configurationOf b .state) (bit (marksOf b)) o open-bit
 
-    -- a move on offer is one of the plan's, and enabled
-    pub offer-open : (j : ℕ) → bit (offeredMask p b) j ≡ true → (j < interactions p) × (enabled p (configurationOf b .state) j ≡ true)
-    unfolding offeredMask
-    offer-open j q =
-        let f : ℕ → Bool = λ i. allOf (eligible p (configurationOf b .state) i ∷ not (bit (marksOf b) i) ∷ []) in
-        let (l, h) = mask-holds (interactions p) f j q in
-        let (k, _) = each _ h in
-        (l, eligible-enabled p (configurationOf b .state) j k)
+      -- one of them above i outranks it
+      pub open-outranks : (i : ℕ) → some-below (interactions p) (λ j. below p i j && bit o j) ≡ outranked p (configurationOf b .state) (bit (marksOf b)) i
+      open-outranks i = outranked-in p (configurationOf b .state) (bit (marksOf b)) i o open-bit
+
+      pub open-small : o < 2 ^ interactions p
+      open-small = rw w (mask-lt (interactions p) (λ j. enabled p (configurationOf b .state) j && not (bit (marksOf b) j)))
+
+      -- each is enabled
+      pub open-enabled : (j : ℕ) → bit o j ≡ true → enabled p (configurationOf b .state) j ≡ true
+      open-enabled j t =
+          let on = enabled p (configurationOf b .state) in
+          let (_, h) = mask-holds (interactions p) (λ j. on j && not (bit (marksOf b) j)) j (ap (λ (m : ℕ). bit m j) (sym w) ∙ t) in
+          and-both (on j) (not (bit (marksOf b) j)) h .0
+
+      -- past 14 every other enabled one is marked, and ends bad
+      pub closed-bad : (j : ℕ) → j < interactions p → enabled p (configurationOf b .state) j ≡ true → bit o j ≡ false → good p (after p (configurationOf b) j) ≡ false
+      closed-bad j l on t =
+          bool-cases (bit (marksOf b) j) (λ m. marks-kept p (configurationOf b) (marksOf b) (lawful .marks) j (le-trans l few) m .ends-bad)
+          (λ m. absurd-bool (open-bit j l ∙ both-and on (ap not m)) t)
 
     -- ---- settle
-
-    -- past 14 a marked move may not be committed, so the lowest good move on offer is the safe one
-    pub safe-on-offer : lowest (interactions p) (λ j. allOf (bit (offeredMask p b) j ∷ good p (after p (configurationOf b) j) ∷ []))
-        ≡ safeMove p (configurationOf b)
-    safe-on-offer =
-        let c = configurationOf b in
-        safe-is p c (λ j. allOf (bit (offeredMask p b) j ∷ good p (after p c j) ∷ []))
-        (λ j l. same-test (allOf (bit (offeredMask p b) j ∷ good p (after p c j) ∷ [])) (mayCommit p c j) (offered-commits j l) (commits-offered j l))
-      where
-        f : ℕ → Bool
-        f i = allOf (eligible p (configurationOf b .state) i ∷ not (bit (marksOf b) i) ∷ [])
-
-        on-offer : (j : ℕ) → j < interactions p → bit (offeredMask p b) j ≡ f j
-        on-offer j l = unfold offeredMask in (bit-mask (interactions p) f j l)
-
-        offered-commits : (j : ℕ) → j < interactions p → allOf (bit (offeredMask p b) j ∷ good p (after p (configurationOf b) j) ∷ []) ≡ true
-            → mayCommit p (configurationOf b) j ≡ true
-        offered-commits j l q =
-            let (o, (g, _)) = each _ q in
-            let (k, _) = each _ (sym (on-offer j l) ∙ o) in
-            commit-from p (configurationOf b) j k g
-
-        unmarked : (j : ℕ) → j < interactions p → mayCommit p (configurationOf b) j ≡ true → not (bit (marksOf b) j) ≡ true
-        unmarked j l m =
-            bool-cases (bit (marksOf b) j)
-            (λ t. absurd-bool (commit-good p (configurationOf b) j m)
-            (marks-kept p (configurationOf b) (marksOf b) (lawful .marks) j (le-trans l few) t .ends-bad))
-            (λ t. ap not t)
-
-        commits-offered : (j : ℕ) → j < interactions p → mayCommit p (configurationOf b) j ≡ true
-            → allOf (bit (offeredMask p b) j ∷ good p (after p (configurationOf b) j) ∷ []) ≡ true
-        commits-offered j l m =
-            all-of _ (on-offer j l ∙ all-of _ (commit-eligible p (configurationOf b) j m, (unmarked j l m, tt)), (commit-good p (configurationOf b) j m, tt))
 
     pub settle-committed : (k : ℕ) → k ≡ safeMove p (configurationOf b) → k < interactions p
         → called p b settle ≡ outcome (committed k) (image p (after p (configurationOf b) k) 0)
@@ -180,6 +149,6 @@ module _ (p : Plan) (b : Image) where
       unfolding settled
       settle-stalled z = called-settle ∙ rw (← q, le-ltb k (interactions p) l, ← some-enabled, eq-eqb m 0 z)
 
-      pub settle-penned : (m ≡ 0 → ⊥) → called p b settle ≡ outcome penned (withMarks b (mask (interactions p) (eligible p (configurationOf b .state))))
+      pub settle-penned : (m ≡ 0 → ⊥) → called p b settle ≡ outcome penned (withMarks b (mask (interactions p) (enabled p (configurationOf b .state))))
       unfolding settled
       settle-penned z = called-settle ∙ rw (← q, le-ltb k (interactions p) l, ← some-enabled, ne-eqb m 0 z)

@@ -4,6 +4,7 @@ use crate::answer::Answer;
 use crate::answer::Offer;
 use crate::reading;
 use choices::choice;
+use choices::masks;
 use lane::run;
 use layout::header::interactions;
 use layout::image::LENGTH;
@@ -15,7 +16,7 @@ ghost use mathlib.Core.Path.{_≡_};
 ghost use Rattle.semantics.specs.Rules.{planRefusal};
 ghost use lib.ListN.{length};
 ghost use Rattle.semantics.specs.Image.{imageLength};
-ghost use Rattle.semantics.specs.Calls.{start, called, Call.offered, Call.try, Call.settle};
+ghost use Rattle.semantics.specs.Calls.{packed, start, called, Call.offered, Call.try, Call.settle};
 ghost use Rattle.engine.specs.Answers.{answerOf, offerOf};
 
 // Starts a lane: the plan's refusals, 11 and 15, then the starting configuration, its event read, with no marks.
@@ -49,7 +50,7 @@ pub fn start_from(plan: &[u8], image: &mut [u8], checked: u8) -> Answer
     Answer::Accepted
 }
 
-// The moves on offer: eligible and not marked.
+// The moves on offer: enabled, not marked, and with none of these above.
 pub fn offered(plan: &[u8], image: &[u8]) -> Offer
     ensures { λ r. ⌜ offerOf r ≡ called (now (plan .entry)) (now (image .entry)) offered .answer ⌝ }
 {
@@ -60,37 +61,7 @@ pub fn offered_from(plan: &[u8], image: &[u8], checked: u8) -> Offer
     requires { ⌜ checked ≡ planRefusal (now plan) ⌝ }
     ensures { λ r. ⌜ offerOf r ≡ called (now (plan .entry)) (now (image .entry)) offered .answer ⌝ }
 {
-    if image.len() != LENGTH {
-        return Offer {
-            answer: Answer::Refused(reading::unreadable(plan, image, checked)),
-            bits: 0,
-        };
-    }
-    offered_on(plan, image, checked)
-}
-
-// The same, on an image that has its length.
-fn offered_on(plan: &[u8], image: &[u8], checked: u8) -> Offer
-    requires { ⌜ (checked ≡ planRefusal (now plan)) × (length (now image) ≡ imageLength) ⌝ }
-    ensures { λ r. ⌜ offerOf r ≡ called (now (plan .entry)) (now (image .entry)) offered .answer ⌝ }
-{
-    let run = run::load(image);
-    let locations = run.locations;
-    let ports = run.last_ports;
-    let values = run.values;
-    let oracles = run.oracles;
-    let mut chosen = [choice::unset(plan); 256];
-    let lane = reading::read(
-        plan,
-        image,
-        checked,
-        &locations,
-        &ports,
-        &values,
-        oracles,
-        run.marks,
-        &mut chosen,
-    );
+    let lane = reading::seen(plan, image, checked);
     let refusal = lane.refusal;
     if refusal != 0 {
         return Offer {
@@ -100,8 +71,20 @@ fn offered_on(plan: &[u8], image: &[u8], checked: u8) -> Offer
     }
     Offer {
         answer: Answer::Accepted,
-        bits: lane.eligible & !run.marks,
+        bits: masks::standing_mask(plan, lane.free),
     }
+}
+
+// Whether the moves on offer can be asked for: the same answer, and no bits.
+pub fn offerable(plan: &[u8], image: &[u8]) -> Answer
+    ensures { λ r. ⌜ packed (answerOf r) ≡ packed (called (now (plan .entry)) (now (image .entry)) offered .answer) ⌝ }
+{
+    let lane = reading::seen(plan, image, plan::check(plan));
+    let refusal = lane.refusal;
+    if refusal != 0 {
+        return Answer::Refused(refusal);
+    }
+    Answer::Accepted
 }
 
 // Tries one move: a good one is committed, any other cancelled.
@@ -154,7 +137,7 @@ fn try_on(plan: &[u8], image: &mut [u8], checked: u8, i: u32) -> Answer
     if !bits::bit(lane.enabled, n) {
         return Answer::Refused(17);
     }
-    if !bits::bit(lane.eligible, n) {
+    if masks::is_outranked(plan, lane.free, n) {
         return Answer::Refused(18);
     }
     if bits::bit(run.marks, n) {
@@ -177,7 +160,7 @@ fn try_on(plan: &[u8], image: &mut [u8], checked: u8, i: u32) -> Answer
     Answer::Cancelled(n as u8)
 }
 
-// Settles on the lowest safe move; with none, stalled or penned.
+// Settles on the lowest move that ends good and above which no enabled one does; with none, stalled or penned.
 pub fn settle(plan: &[u8], image: &mut [u8]) -> Answer
     ensures { λ r. ⌜ (answerOf r ≡ called (now (plan .entry)) (now (image .entry)) settle .answer) × (now (image .exit) ≡ called (now (plan .entry)) (now (image .entry)) settle .image) ⌝ }
 {
@@ -223,14 +206,14 @@ fn settle_on(plan: &[u8], image: &mut [u8], checked: u8) -> Answer
     let mut places = locations;
     let mut last = ports;
     let mut numbers = values;
-    let found = search::lowest_good(
+    let found = search::safe_move(
         plan,
         &locations,
         &ports,
         &values,
         oracles,
         &chosen,
-        lane.eligible & !run.marks,
+        lane.free,
         &mut places,
         &mut last,
         &mut numbers,
@@ -244,6 +227,6 @@ fn settle_on(plan: &[u8], image: &mut [u8], checked: u8) -> Answer
     if lane.enabled == 0 {
         return Answer::Stalled;
     }
-    run::put_marks(image, lane.eligible);
+    run::put_marks(image, lane.enabled);
     Answer::Penned
 }

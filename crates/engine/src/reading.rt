@@ -1,31 +1,32 @@
-// The reading of a plan and a lane's image: the refusals of both in order, and where none applies what is enabled and eligible.
+// The reading of a plan and a lane's image: the refusals of both in order, and where none applies what is enabled, and of that what is not marked.
 use choices::choice;
 use choices::masks;
 use lane::image;
-use layout::header::interactions;
+use lane::run;
+use layout::image::LENGTH;
 use moves::search;
 use words::bits;
 ghost use mathlib.Core.Path.{_≡_};
-ghost use mathlib.Core.Bool.{true};
+ghost use mathlib.Core.Bool.{true, not, _&&_};
 ghost use mathlib.Core.List.{_++_};
 ghost use Prim.Native.Nat.{_≤_};
 ghost use lib.ListN.{length, replicate};
-ghost use Rattle.semantics.specs.Bytes.{mask};
+ghost use Rattle.semantics.specs.Bytes.{bit, mask};
 ghost use Rattle.semantics.specs.Plan.{transitions, interactions};
 ghost use Rattle.semantics.specs.Code.{site};
 ghost use Rattle.semantics.specs.Refusal.{refusal};
 ghost use Rattle.semantics.specs.Rules.{planRules, planRefusal};
-ghost use Rattle.semantics.specs.Move.{eligible, oraclesInRange};
-ghost use Rattle.semantics.specs.Image.{imageLength, marksOk, imageRules};
+ghost use Rattle.semantics.specs.Move.{enabled, oraclesInRange};
+ghost use Rattle.semantics.specs.Image.{imageLength, marksOf, configurationOf, marksOk, imageRules};
 ghost use Rattle.choices.specs.Choices.{chosenTable};
 ghost use Rattle.lane.specs.Runs.{lent, Sized};
 ghost use Rattle.engine.specs.Known.{Known, ImageHolds};
 
-// The first refusal of plan and image, and where that is 0 the enabled and the eligible interactions.
+// The first refusal of plan and image, and where that is 0 the enabled interactions, and those of them that are not marked.
 pub struct Reading {
     pub refusal: u8,
     pub enabled: u64,
-    pub eligible: u64,
+    pub free: u64,
 }
 
 // A lane that is refused.
@@ -35,7 +36,7 @@ fn turned_away(refusal: u8) -> Reading
     Reading {
         refusal: refusal,
         enabled: 0,
-        eligible: 0,
+        free: 0,
     }
 }
 
@@ -51,7 +52,7 @@ pub fn unreadable(plan: &[u8], image: &[u8], checked: u8) -> u8
     11
 }
 
-// 14: whether each mark is on an eligible interaction that ends bad.
+// 14: whether each mark is on an enabled interaction that ends bad, and each enabled one above it is marked too.
 fn marks_ok<'a>(
     plan: &[u8],
     locations: &'a [u8; 16],
@@ -60,35 +61,25 @@ fn marks_ok<'a>(
     oracles: [u8; 4],
     marks: u64,
     chosen: &[u16; 256],
-    eligible: u64,
+    enabled: u64,
+    free: u64,
 ) -> bool
     requires { ⌜ planRefusal (now plan) ≡ 0 ⌝ }
     requires { ⌜ (now chosen ≡ chosenTable (now plan) (site (now locations) (now ports) (now values))) × Sized (now locations) (now ports) (now values) ⌝ }
-    requires { ⌜ (oraclesInRange (now plan) oracles ≡ true) × (eligible ≡ mask (interactions (now plan)) (Rattle.semantics.specs.Move.eligible (now plan) (site (now locations) (now ports) (now values)))) ⌝ }
+    requires { ⌜ (oraclesInRange (now plan) oracles ≡ true) × (enabled ≡ mask (interactions (now plan)) (Rattle.semantics.specs.Move.enabled (now plan) (site (now locations) (now ports) (now values)))) ⌝ }
+    requires { ⌜ free ≡ mask (interactions (now plan)) (λ j. Rattle.semantics.specs.Move.enabled (now plan) (site (now locations) (now ports) (now values)) j && not (bit marks j)) ⌝ }
     ensures { λ r. ⌜ r ≡ marksOk (now (plan .entry)) (lent (now (locations .entry)) (now (ports .entry)) (now (values .entry)) oracles) marks ⌝ }
 {
-    if !bits::inside(marks, eligible) {
+    if !bits::inside(marks, enabled) {
         return false;
     }
     if marks == 0 {
         return true;
     }
-    let mut places = *locations;
-    let mut last = *ports;
-    let mut numbers = *values;
-    let found = search::lowest_good(
-        plan,
-        locations,
-        ports,
-        values,
-        oracles,
-        chosen,
-        marks,
-        &mut places,
-        &mut last,
-        &mut numbers,
-    );
-    found.number >= interactions(plan)
+    if !masks::none_above(plan, marks, free) {
+        return false;
+    }
+    search::all_bad(plan, locations, ports, values, oracles, chosen, marks)
 }
 
 // Reads plan and image, which has its length: `checked` is what the plan's check said, the parts lent are those of the image's run record, and the table of
@@ -109,7 +100,7 @@ pub fn read<'a>(
     requires { ⌜ (48 ≤ length (now plan) → now chosen ≡ replicate 256 (transitions (now plan))) ⌝ }
     ensures { λ r. ⌜ r .refusal ≡ refusal (planRules (now (plan .entry)) ++ imageRules (now (plan .entry)) (now (image .entry))) ⌝ }
     ensures { λ r. ⌜ (r .refusal ≡ 0 → now (chosen .exit) ≡ chosenTable (now (plan .entry)) (site (now (locations .entry)) (now (ports .entry)) (now (values .entry)))) ⌝ }
-    ensures { λ r. ⌜ (r .refusal ≡ 0 → Known (now (plan .entry)) (site (now (locations .entry)) (now (ports .entry)) (now (values .entry))) r) ⌝ }
+    ensures { λ r. ⌜ (r .refusal ≡ 0 → Known (now (plan .entry)) (site (now (locations .entry)) (now (ports .entry)) (now (values .entry))) (bit marks) r) ⌝ }
 {
     if checked != 0 {
         return turned_away(checked);
@@ -122,7 +113,7 @@ pub fn read<'a>(
     }
     choice::choose(plan, locations, ports, values, chosen);
     let enabled = masks::enabled_mask(plan, locations, ports, values, chosen);
-    let eligible = masks::eligible_mask(plan, enabled);
+    let free = bits::without(enabled, marks);
     if !marks_ok(
         plan,
         locations,
@@ -131,13 +122,51 @@ pub fn read<'a>(
         oracles,
         marks,
         chosen,
-        eligible,
+        enabled,
+        free,
     ) {
         return turned_away(14);
     }
     Reading {
         refusal: 0,
         enabled: enabled,
-        eligible: eligible,
+        free: free,
     }
+}
+
+// The same of an image that has its length, from its bytes alone: for calls that make no move.
+fn seen_on(plan: &[u8], image: &[u8], checked: u8) -> Reading
+    requires { ⌜ (checked ≡ planRefusal (now plan)) × (length (now image) ≡ imageLength) ⌝ }
+    ensures { λ r. ⌜ r .refusal ≡ refusal (planRules (now (plan .entry)) ++ imageRules (now (plan .entry)) (now (image .entry))) ⌝ }
+    ensures { λ r. ⌜ (r .refusal ≡ 0 → Known (now (plan .entry)) (configurationOf (now (image .entry)) .state) (bit (marksOf (now (image .entry)))) r) ⌝ }
+{
+    let run = run::load(image);
+    let locations = run.locations;
+    let ports = run.last_ports;
+    let values = run.values;
+    let oracles = run.oracles;
+    let mut chosen = [choice::unset(plan); 256];
+    read(
+        plan,
+        image,
+        checked,
+        &locations,
+        &ports,
+        &values,
+        oracles,
+        run.marks,
+        &mut chosen,
+    )
+}
+
+// The same of any image.
+pub fn seen(plan: &[u8], image: &[u8], checked: u8) -> Reading
+    requires { ⌜ checked ≡ planRefusal (now plan) ⌝ }
+    ensures { λ r. ⌜ r .refusal ≡ refusal (planRules (now (plan .entry)) ++ imageRules (now (plan .entry)) (now (image .entry))) ⌝ }
+    ensures { λ r. ⌜ (r .refusal ≡ 0 → Known (now (plan .entry)) (configurationOf (now (image .entry)) .state) (bit (marksOf (now (image .entry)))) r) ⌝ }
+{
+    if image.len() != LENGTH {
+        return turned_away(unreadable(plan, image, checked));
+    }
+    seen_on(plan, image, checked)
 }

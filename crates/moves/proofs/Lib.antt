@@ -1,3 +1,4 @@
 pub mod FireLaws
 pub mod Judging
 pub mod SearchLaws
+pub mod SeekLaws

@@ -1,19 +1,99 @@
-// The moves of a mask that end good.
+// Which moves of a mask end good, and the move that settling commits.
 use crate::judge;
+use choices::masks;
 use layout::header::interactions;
 use oracle::row;
 use words::bits;
 ghost use mathlib.Core.Path.{_≡_};
-ghost use mathlib.Core.Bool.{true};
-ghost use mathlib.Core.List.{[], _∷_};
-ghost use Prim.Native.Nat.{ℕ, _≤_, _<_};
-ghost use Rattle.semantics.specs.Bytes.{allOf, lowest, bit};
-ghost use Rattle.semantics.specs.Plan.{interactions};
+ghost use mathlib.Core.Bool.{true, false, not};
+ghost use Prim.Native.Nat.{ℕ, min, _^_, _<_};
+ghost use Rattle.semantics.specs.Bytes.{every, implies, bit};
+ghost use Rattle.semantics.specs.Plan.{maxInteractions, interactions};
 ghost use Rattle.semantics.specs.Code.{site};
 ghost use Rattle.semantics.specs.Rules.{planRefusal};
-ghost use Rattle.semantics.specs.Move.{enabled, after, oraclesInRange, good};
+ghost use Rattle.semantics.specs.Move.{enabled, after, oraclesInRange, good, safeMove};
 ghost use Rattle.choices.specs.Choices.{chosenTable};
 ghost use Rattle.lane.specs.Runs.{lent, Sized};
+ghost use Rattle.moves.specs.Seeking.{AfterGood, AfterBad};
+
+// Whether each move of the mask ends bad, each of which is enabled; the table of choices is that of the state.
+pub fn all_bad<'a>(
+    plan: &[u8],
+    locations: &'a [u8; 16],
+    ports: &'a [u8; 16],
+    values: &'a [i32; 64],
+    oracles: [u8; 4],
+    chosen: &[u16; 256],
+    moves: u64,
+) -> bool
+    requires { ⌜ planRefusal (now plan) ≡ 0 ⌝ }
+    requires { ⌜ (now chosen ≡ chosenTable (now plan) (site (now locations) (now ports) (now values))) × (oraclesInRange (now plan) oracles ≡ true) ⌝ }
+    requires { ⌜ Sized (now locations) (now ports) (now values) ⌝ }
+    requires { ⌜ ((j : ℕ) → bit moves j ≡ true → (j < interactions (now plan)) × (enabled (now plan) (site (now locations) (now ports) (now values)) j ≡ true)) ⌝ }
+    ensures { λ r. ⌜ r ≡ every maxInteractions (λ j. implies (bit moves j) (not (good (now (plan .entry)) (after (now (plan .entry)) (lent (now (locations .entry)) (now (ports .entry)) (now (values .entry)) oracles) j)))) ⌝ }
+{
+    let mut left = moves;
+    while left != 0 {
+        let rest = bits::without_lowest(left);
+        let n = bits::lowest_bit(left);
+        let mut places = *locations;
+        let mut last = *ports;
+        let mut numbers = *values;
+        let q = judge::after(
+            plan,
+            &mut places,
+            &mut last,
+            &mut numbers,
+            oracles,
+            chosen,
+            n,
+        );
+        if row::good(plan, q) {
+            return false;
+        }
+        left = rest;
+    }
+    true
+}
+
+// What settling still seeks: the moves not known to be bad, those of them that may yet be the one, and the lowest that is known to be allowed; the number of
+// interactions where none is.
+pub struct Sought {
+    pub open: u64,
+    pub left: u64,
+    pub best: usize,
+}
+
+// The lower of two numbers.
+fn lower(a: usize, b: usize) -> usize
+    ensures { λ r. ⌜ r ≡ min a b ⌝ }
+{
+    if b < a {
+        return b;
+    }
+    a
+}
+
+// What is sought when move n was judged, above which nothing open lies. A good one is allowed, and what lies below it is not; a bad one is out.
+fn narrowed(plan: &[u8], s: Sought, n: usize, good: bool) -> Sought
+    requires { ⌜ planRefusal (now plan) ≡ 0 ⌝ }
+    requires { ⌜ (s .left < 2 ^ interactions (now plan)) × (n < interactions (now plan)) ⌝ }
+    ensures { λ r. ⌜ (good ≡ true → AfterGood (now (plan .entry)) s n r) × (good ≡ false → AfterBad s n r) ⌝ }
+{
+    if good {
+        return Sought {
+            open: s.open,
+            left: masks::lower_beside(plan, s.left, n),
+            best: lower(s.best, n),
+        };
+    }
+    let one = bits::with_bit(0, n);
+    Sought {
+        open: bits::without(s.open, one),
+        left: bits::without(s.left, one),
+        best: s.best,
+    }
+}
 
 // A move and the oracles' states after it; where no move was found, the number of interactions and the states as they were.
 pub struct Found {
@@ -21,9 +101,10 @@ pub struct Found {
     pub oracles: [u8; 4],
 }
 
-// The lowest move of the mask that ends good, each of which is enabled; the table of choices is that of the state. The state after it is left in three
-// arrays, in which it is made: they are lent with the state in them, and hold it again where no move is found.
-pub fn lowest_good<'a>(
+// The move that settling commits: the lowest one that ends good and above which no enabled one does. The mask has enabled moves, and every enabled one that may
+// end good; the table of choices is that of the state. From the lowest that is left the search climbs to one above which nothing open lies, so none is
+// judged twice; the one found may be made once more. The state after the move is left in three arrays, in which it is made; they are lent with the state in them.
+pub fn safe_move<'a>(
     plan: &[u8],
     locations: &'a [u8; 16],
     ports: &'a [u8; 16],
@@ -38,18 +119,22 @@ pub fn lowest_good<'a>(
     requires { ⌜ planRefusal (now plan) ≡ 0 ⌝ }
     requires { ⌜ (now chosen ≡ chosenTable (now plan) (site (now locations) (now ports) (now values))) × (oraclesInRange (now plan) oracles ≡ true) ⌝ }
     requires { ⌜ Sized (now locations) (now ports) (now values) × (site (now places) (now last) (now numbers) ≡ site (now locations) (now ports) (now values)) ⌝ }
-    requires { ⌜ ((j : ℕ) → bit moves j ≡ true → (j < interactions (now plan)) × (enabled (now plan) (site (now locations) (now ports) (now values)) j ≡ true)) ⌝ }
+    requires { ⌜ (moves < 2 ^ interactions (now plan)) × ((j : ℕ) → bit moves j ≡ true → enabled (now plan) (site (now locations) (now ports) (now values)) j ≡ true) ⌝ }
+    requires { ⌜ ((j : ℕ) → j < interactions (now plan) → enabled (now plan) (site (now locations) (now ports) (now values)) j ≡ true → bit moves j ≡ false → good (now plan) (after (now plan) (lent (now locations) (now ports) (now values) oracles) j) ≡ false) ⌝ }
     ensures { λ r. ⌜ Sized (now (places .exit)) (now (last .exit)) (now (numbers .exit)) ⌝ }
-    ensures { λ r. ⌜ r .number ≡ lowest (interactions (now (plan .entry))) (λ j. allOf (bit moves j ∷ good (now (plan .entry)) (after (now (plan .entry)) (lent (now (locations .entry)) (now (ports .entry)) (now (values .entry)) oracles) j) ∷ [])) ⌝ }
+    ensures { λ r. ⌜ r .number ≡ safeMove (now (plan .entry)) (lent (now (locations .entry)) (now (ports .entry)) (now (values .entry)) oracles) ⌝ }
     ensures { λ r. ⌜ (r .number < interactions (now (plan .entry)) → lent (now (places .exit)) (now (last .exit)) (now (numbers .exit)) (r .oracles) ≡ after (now (plan .entry)) (lent (now (locations .entry)) (now (ports .entry)) (now (values .entry)) oracles) (r .number)) ⌝ }
-    ensures { λ r. ⌜ (interactions (now (plan .entry)) ≤ r .number → lent (now (places .exit)) (now (last .exit)) (now (numbers .exit)) (r .oracles) ≡ lent (now (locations .entry)) (now (ports .entry)) (now (values .entry)) oracles) ⌝ }
 {
+    let count = interactions(plan);
+    let mut open = moves;
     let mut left = moves;
+    let mut best = count;
     while left != 0 {
-        let rest = bits::without_lowest(left);
-        let n = bits::lowest_bit(left);
+        let n = masks::climb(plan, open, bits::lowest_bit(left));
         let q = judge::after(plan, places, last, numbers, oracles, chosen, n);
-        if row::good(plan, q) {
+        let s = Sought { open, left, best };
+        let next = narrowed(plan, s, n, row::good(plan, q));
+        if next.left == 0 && next.best == n {
             return Found {
                 number: n,
                 oracles: q,
@@ -61,10 +146,19 @@ pub fn lowest_good<'a>(
         *last = old_last;
         let old_numbers = *values;
         *numbers = old_numbers;
-        left = rest;
+        open = next.open;
+        left = next.left;
+        best = next.best;
     }
+    if best == count {
+        return Found {
+            number: count,
+            oracles: oracles,
+        };
+    }
+    let q = judge::after(plan, places, last, numbers, oracles, chosen, best);
     Found {
-        number: interactions(plan),
-        oracles: oracles,
+        number: best,
+        oracles: q,
     }
 }

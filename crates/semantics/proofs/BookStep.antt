@@ -6,29 +6,32 @@ use mathlib.Core.Bool.{Bool, true, false, not, _||_}
 use mathlib.Core.List.{List, [], _∷_, _++_, append-assoc}
 use lib.ListN.{length}
 use lib.Dec.{ltb, eqb}
-use Rattle.semantics.specs.Bytes.{allOf, implies, some-below, bit, mask, withBit}
+use Rattle.semantics.specs.Bytes.{allOf, some-below, bit, mask, withBit}
 use Rattle.semantics.specs.Plan.{Plan, maxInteractions, interactions}
 use Rattle.semantics.specs.Refusal.{unless, refusal}
 use Rattle.semantics.specs.Rules.{planRules, planRefusal}
 use Rattle.semantics.specs.Move.{Configuration, enabled, outranked, eligible, after, good, mayCommit, safeMove, initial}
-use Rattle.semantics.specs.Image.{imageLength, image, withMarks, marksOf, configurationOf, headMatches, markOk, marksOk, lengthRule, imageRules}
+use Rattle.semantics.specs.Image.{imageLength, image, withMarks, marksOf, configurationOf, headMatches, marksOk, lengthRule, imageRules}
 use Rattle.semantics.specs.Calls.{committed, cancelled, penned, outcome, unlessRefused, clerkRules, offeredMask, tried, settled, Call, offered, try, settle, callRules, performed, called}
 use Rattle.semantics.specs.Book.{Book, replay, lane, bookImage, listed, crossedOff, bookOffered, bookRefusal, bookTried, unlessWrong, bookSettled, turn}
-use Rattle.semantics.proofs.Basics.{bool-cases, absurd-bool, same-test, not-yes, or-cases, or-right, implies-yes, Each, all-of, ltb-true, ltb-false, lt-ltb, eqb-true, eq-eqb, ne-eqb, every-all}
+use Rattle.semantics.proofs.Basics.{bool-cases, absurd-bool, same-test, not-yes, or-cases, or-left, or-right, Each, ltb-true, ltb-false, eqb-true, eq-eqb, ne-eqb}
 use Rattle.semantics.proofs.Masks.{bit-mask, bit-mask-over, mask-wider, mask-same, mask-none}
 use Rattle.semantics.proofs.Refusing.{tests, numbered, none-refused, all-kept, refusal-after}
 use Rattle.semantics.proofs.RuleLists.{keeps, rule-kept}
 use Rattle.semantics.proofs.AcceptedPlan.{Accepted, accepted-plan, plan-numbered, counts-of, mask-small}
 use Rattle.semantics.proofs.Images.{length-image, withMarks-image, marks-back, head-matches, configuration-back}
 use Rattle.semantics.proofs.Sound.{Sound, shaped, configuration-ok, sound-after}
-use Rattle.semantics.proofs.Ranking.{eligible-enabled, eligible-from, commit-eligible, commit-good, commit-from, bad-uncommitted, safe-commits, safe-none}
-use Rattle.semantics.proofs.LawfulImage.{mark-kept}
+use Rattle.semantics.proofs.RankOrder.{rank-order}
+use Rattle.semantics.proofs.Ranking.{above-marked, outranked-same, eligible-same, eligible-enabled, eligible-top, eligible-from, commit-enabled, commit-good, commit-eligible, safe-commits}
+use Rattle.semantics.proofs.Maximal.{none-good}
+use Rattle.semantics.proofs.LawfulImage.{MarkKept, marks-ok}
 
--- what a book keeps from an accepted start on: its lane is sound and good, and each move crossed off is eligible there and ends bad
+-- what a book keeps from an accepted start on: its lane is sound and good, and each move crossed off is enabled there and ends bad, as are those enabled above
+-- it, which are crossed off too
 pub record Lawful (p : Plan) (k : Book) : Type 0 where
   pub sound : Sound p (lane p k)
   pub is-good : good p (lane p k) ≡ true
-  pub crossed-bad : (i : ℕ) → i < interactions p → k .crossed i ≡ true → markOk p (lane p k) i ≡ true
+  pub crossed-bad : (i : ℕ) → i < interactions p → k .crossed i ≡ true → MarkKept p (lane p k) (k .crossed) i
 
 -- ---- the book's lane
 
@@ -68,14 +71,20 @@ module _ (p : Plan) (e : planRefusal p ≡ 0) where
     held-marks = marks-back p (lane p k) (mask (interactions p) (k .crossed)) (mask-small p e (k .crossed))
 
     -- it passes 14
+    set-is : (i : ℕ) → i < interactions p → k .crossed i ≡ bit (mask (interactions p) (k .crossed)) i
+    set-is i l = sym (bit-mask (interactions p) (k .crossed) i l)
+
+    pub mark-lawful : (i : ℕ) → bit (mask (interactions p) (k .crossed)) i ≡ true → MarkKept p (lane p k) (bit (mask (interactions p) (k .crossed))) i
+    mark-lawful i b =
+        bool-cases (ltb i (interactions p))
+        (λ t.
+        let l : i < interactions p = ltb-true i (interactions p) t in
+        let m = h .crossed-bad i l (set-is i l ∙ b) in
+        record { number< = l; is-enabled = m .is-enabled; ends-bad = m .ends-bad; above = λ j n up on. sym (set-is j n) ∙ m .above j n up on })
+        (λ t. absurd-bool b (bit-mask-over (interactions p) (k .crossed) i (ltb-false i (interactions p) t)))
+
     marks-lawful : marksOk p (lane p k) (mask (interactions p) (k .crossed)) ≡ true
-    unfolding marksOk
-    marks-lawful =
-        every-all maxInteractions (λ i. implies (bit (mask (interactions p) (k .crossed)) i) (markOk p (lane p k) i))
-        (λ i l. implies-yes (bit (mask (interactions p) (k .crossed)) i) (markOk p (lane p k) i)
-        (λ b. bool-cases (ltb i (interactions p))
-        (λ t. h .crossed-bad i (ltb-true i (interactions p) t) (sym (bit-mask (interactions p) (k .crossed) i (ltb-true i (interactions p) t)) ∙ b))
-        (λ t. absurd-bool b (bit-mask-over (interactions p) (k .crossed) i (ltb-false i (interactions p) t)))))
+    marks-lawful = marks-ok p (lane p k) (mask (interactions p) (k .crossed)) (λ i l. mark-lawful i)
 
     -- 11 to 14 do not apply
     image-kept : Each (tests (imageRules p (bookImage p k)))
@@ -101,15 +110,18 @@ module _ (p : Plan) (e : planRefusal p ≡ 0) where
     clerk-same : (i : ℕ) → refusal (clerkRules p (bookImage p k) i) ≡ bookRefusal p k i
     unfolding clerkRules bookRefusal refusal unless
     clerk-same i =
-        bool-cases (ltb i (interactions p)) (λ t. rw (held-lane, mark-is i (ltb-true i (interactions p) t)))
+        bool-cases (ltb i (interactions p))
+        (λ t. rw (held-lane, mark-is i (ltb-true i (interactions p) t), outranked-same p (lane p k .state) (bit (marksOf (bookImage p k))) (k .crossed) mark-is i))
         (λ t. rw t)
 
     offered-same : offeredMask p (bookImage p k) ≡ bookOffered p k .answer .bits
     unfolding offeredMask bookOffered
     offered-same =
-        mask-same (interactions p) (λ i. allOf (eligible p (lane p k .state) i ∷ not (k .crossed i) ∷ []))
-        (λ i. allOf (eligible p (configurationOf (bookImage p k) .state) i ∷ not (bit (marksOf (bookImage p k)) i) ∷ []))
-        (λ i l. ap₂ (λ (c : Configuration) (b : Bool). allOf (eligible p (c .state) i ∷ not b ∷ [])) held-lane (mark-is i l))
+        let m = bit (marksOf (bookImage p k)) in
+        mask-same (interactions p) (λ i. allOf (eligible p (lane p k .state) (k .crossed) i ∷ not (k .crossed i) ∷ []))
+        (λ i. allOf (eligible p (configurationOf (bookImage p k) .state) m i ∷ not (m i) ∷ []))
+        (λ i l. ap₂ (λ (e b : Bool). allOf (e ∷ not b ∷ []))
+        (ap (λ (c : Configuration). eligible p (c .state) m i) held-lane ∙ eligible-same p (lane p k .state) m (k .crossed) mark-is i) (mark-is i l))
 
     -- the mark of move i set beside the others
     bit-set : (i : ℕ) → i < interactions p → withBit (mask (interactions p) (k .crossed)) i ≡ mask (interactions p) (crossedOff k (λ j. eqb j i) .crossed)
@@ -140,18 +152,17 @@ module _ (p : Plan) (e : planRefusal p ≡ 0) where
         (bool-cases (good p (after p (lane p k) i)) (λ t. rw t (ap (outcome (committed i)) (image-listed p k i)))
         (λ t. rw t (ap (outcome (cancelled i)) (cancelled-same i l))))
 
-    -- past 14 the moves crossed off are eligible: crossing off all that are leaves exactly those
-    all-crossed : mask (interactions p) (eligible p (lane p k .state)) ≡ mask (interactions p) (crossedOff k (eligible p (lane p k .state)) .crossed)
-    unfolding markOk
+    -- past 14 the moves crossed off are enabled: crossing off all that are leaves exactly those
+    all-crossed : mask (interactions p) (enabled p (lane p k .state)) ≡ mask (interactions p) (crossedOff k (enabled p (lane p k .state)) .crossed)
     all-crossed =
-        mask-same (interactions p) (λ j. k .crossed j || eligible p (lane p k .state) j) (eligible p (lane p k .state))
-        (λ j l. same-test (eligible p (lane p k .state) j) (k .crossed j || eligible p (lane p k .state) j)
-        (or-right (k .crossed j) (eligible p (lane p k .state) j))
-        (λ t. or-cases (k .crossed j) (eligible p (lane p k .state) j) t (λ b. mark-kept p (lane p k) j (h .crossed-bad j l b) .is-eligible) (λ b. b)))
+        let on : ℕ → Bool = enabled p (lane p k .state) in
+        mask-same (interactions p) (λ j. k .crossed j || on j) on
+        (λ j l. same-test (on j) (k .crossed j || on j) (or-right (k .crossed j) (on j))
+        (λ t. or-cases (k .crossed j) (on j) t (λ b. h .crossed-bad j l b .is-enabled) (λ b. b)))
 
-    -- penned: the image marks the eligible moves, the book crosses them off
-    penned-same : withMarks (bookImage p k) (mask (interactions p) (eligible p (lane p k .state))) ≡ bookImage p (crossedOff k (eligible p (lane p k .state)))
-    penned-same = ap (withMarks (bookImage p k)) all-crossed ∙ marked-crossed (eligible p (lane p k .state))
+    -- penned: the image marks the enabled moves, the book crosses them off
+    penned-same : withMarks (bookImage p k) (mask (interactions p) (enabled p (lane p k .state))) ≡ bookImage p (crossedOff k (enabled p (lane p k .state)))
+    penned-same = ap (withMarks (bookImage p k)) all-crossed ∙ marked-crossed (enabled p (lane p k .state))
 
     settled-same : settled p (bookImage p k) ≡ outcome (bookSettled p k .answer) (bookImage p (bookSettled p k .book))
     unfolding settled bookSettled
@@ -166,7 +177,7 @@ module _ (p : Plan) (e : planRefusal p ≡ 0) where
     -- a try that is not wrong names one of the plan's interactions, eligible and not crossed off
     pub record Allowed (i : ℕ) : Type 0 where
       pub number< : i < interactions p
-      pub is-eligible : eligible p (lane p k .state) i ≡ true
+      pub is-eligible : eligible p (lane p k .state) (k .crossed) i ≡ true
       pub not-crossed : k .crossed i ≡ false
 
     pub allowed-try : (i : ℕ) → bookRefusal p k i ≡ 0 → Allowed i
@@ -175,9 +186,13 @@ module _ (p : Plan) (e : planRefusal p ≡ 0) where
         let kept = rule-kept _ refl r in
         record {
           number< = ltb-true _ _ (kept 16);
-          is-eligible = eligible-from p (lane p k .state) i (kept 17) (not-yes (outranked p (lane p k .state) i) (kept 18));
+          is-eligible = eligible-from p (lane p k .state) (k .crossed) i (kept 17) (not-yes (outranked p (lane p k .state) (k .crossed) i) (kept 18));
           not-crossed = not-yes (k .crossed i) (kept 19);
         }
+
+    -- a good one may be committed: what is enabled above it is crossed off, and ends bad
+    pub allowed-commits : (i : ℕ) → Allowed i → good p (after p (lane p k) i) ≡ true → mayCommit p (lane p k) i ≡ true
+    allowed-commits i a = commit-eligible p (lane p k) i (k .crossed) (λ j l b. h .crossed-bad j l b .ends-bad) (a .is-eligible)
 
     -- nothing but 16 to 19 refuses a call
     no-refusal : refusal (planRules p ++ imageRules p (bookImage p k)) ≡ 0
@@ -212,27 +227,42 @@ module _ (p : Plan) (e : planRefusal p ≡ 0) where
         record {
           sound =
               rw (lane-listed p k i)
-              (sound-after p here (lane p k) (h .sound) i l (eligible-enabled p (lane p k .state) i (commit-eligible p (lane p k) i m)));
+              (sound-after p here (lane p k) (h .sound) i l (commit-enabled p (lane p k) i m));
           is-good = rw (lane-listed p k i) (commit-good p (lane p k) i m);
           crossed-bad = λ j n b. absurd-bool b refl;
         }
 
-    -- moves that may be marked are crossed off
-    crossed-lawful : (f : ℕ → Bool) → ((i : ℕ) → i < interactions p → f i ≡ true → markOk p (lane p k) i ≡ true) → Lawful p (crossedOff k f)
+    -- moves that may be marked then are crossed off
+    crossed-lawful : (f : ℕ → Bool) → ((i : ℕ) → i < interactions p → f i ≡ true → MarkKept p (lane p k) (crossedOff k f .crossed) i) → Lawful p (crossedOff k f)
     unfolding lane
     crossed-lawful f bad =
         record {
           sound = h .sound;
           is-good = h .is-good;
-          crossed-bad = λ i l b. or-cases (k .crossed i) (f i) b (h .crossed-bad i l) (bad i l);
+          crossed-bad = λ i l b. or-cases (k .crossed i) (f i) b
+              (λ t.
+              let m = h .crossed-bad i l t in
+              record { number< = l; is-enabled = m .is-enabled; ends-bad = m .ends-bad; above = λ j n up on. or-left (k .crossed j) (f j) (m .above j n up on) })
+              (bad i l);
+        }
+
+    -- a bad one that may be tried
+    allowed-mark : (i : ℕ) → Allowed i → good p (after p (lane p k) i) ≡ false → MarkKept p (lane p k) (crossedOff k (λ j. eqb j i) .crossed) i
+    allowed-mark i a t =
+        let s = lane p k .state in
+        record {
+          number< = a .number<;
+          is-enabled = eligible-enabled p s (k .crossed) i (a .is-eligible);
+          ends-bad = t;
+          above = λ j n up on. or-left (k .crossed j) (eqb j i) (above-marked p s (k .crossed) i (eligible-top p s (k .crossed) i (a .is-eligible)) j n up on);
         }
 
     tried-lawful : (i : ℕ) → Allowed i → Lawful p (bookTried p k i .book)
-    unfolding bookTried markOk
+    unfolding bookTried
     tried-lawful i a =
-        bool-cases (good p (after p (lane p k) i)) (λ t. rw t (listed-lawful i (a .number<) (commit-from p (lane p k) i (a .is-eligible) t)))
+        bool-cases (good p (after p (lane p k) i)) (λ t. rw t (listed-lawful i (a .number<) (allowed-commits i a t)))
         (λ t. rw t (crossed-lawful (λ j. eqb j i)
-        (λ j l b. rw (eqb-true j i b) (all-of _ (lt-ltb i (interactions p) (a .number<), (a .is-eligible, (ap not (bad-uncommitted p (lane p k) i t), tt)))))))
+        (λ j l b. rw (eqb-true j i b) (allowed-mark i a t))))
 
     wrong-lawful : (i n : ℕ) → bookRefusal p k i ≡ n → Lawful p (unlessWrong n k (bookTried p k i) .book)
     unfolding unlessWrong
@@ -240,13 +270,19 @@ module _ (p : Plan) (e : planRefusal p ≡ 0) where
     wrong-lawful i (suc n) r = h
 
     settled-lawful : Lawful p (bookSettled p k .book)
-    unfolding bookSettled markOk
+    unfolding bookSettled
     settled-lawful =
         bool-cases (ltb (safeMove p (lane p k)) (interactions p))
         (λ t. let l = ltb-true _ _ t in rw t (listed-lawful (safeMove p (lane p k)) l (safe-commits p (lane p k) l)))
         (λ t. bool-cases (some-below (interactions p) (enabled p (lane p k .state)))
-        (λ u. rw (t, u) (crossed-lawful (eligible p (lane p k .state))
-        (λ i l b. all-of _ (lt-ltb i (interactions p) l, (b, (ap not (safe-none p (lane p k) t i l), tt))))))
+        (λ u. rw (t, u) (crossed-lawful (enabled p (lane p k .state))
+        (λ i l b.
+        record {
+          number< = l;
+          is-enabled = b;
+          above = λ j m up on. or-right (k .crossed j) (enabled p (lane p k .state) j) on;
+          ends-bad = none-good p (rank-order p e) (lane p k) t i l b;
+        })))
         (λ u. rw (t, u) h))
 
     pub turn-lawful : (c : Call) → Lawful p (turn p k c .book)

@@ -7,13 +7,13 @@ use lib.Dec.{ltb, eqb}
 use Rattle.semantics.specs.Bytes.{some-below}
 use Rattle.semantics.specs.Plan.{Plan, interactions}
 use Rattle.semantics.specs.Rules.{planRefusal}
-use Rattle.semantics.specs.Move.{enabled, eligible, after, good, mayCommit, safeMove}
+use Rattle.semantics.specs.Move.{enabled, after, good, mayCommit, safeMove}
 use Rattle.semantics.specs.Calls.{Answer, committed, cancelled, stalled, penned, refused, Call, offered, try, settle}
 use Rattle.semantics.specs.Book.{Book, lane, bookImage, listed, crossedOff, Entry, entry, bookOffered, bookRefusal, bookTried, unlessWrong, bookSettled, turn, told, kept}
 use Rattle.semantics.specs.Run.{commits, crosses, leftBy}
 use Rattle.semantics.proofs.Basics.{bool-cases, ltb-true}
-use Rattle.semantics.proofs.Ranking.{commit-from, safe-commits}
-use Rattle.semantics.proofs.BookStep.{Lawful, allowed-try, turn-lawful}
+use Rattle.semantics.proofs.Ranking.{safe-commits}
+use Rattle.semantics.proofs.BookStep.{Lawful, allowed-try, allowed-commits, turn-lawful}
 
 pub data Turned (p : Plan) (k : Book) : Entry → Type 0 where
   commits-move : (i : ℕ) → i < interactions p → mayCommit p (lane p k) i ≡ true → Turned p k (entry (committed i) (listed k i))
@@ -25,7 +25,7 @@ module _ (p : Plan) (e : planRefusal p ≡ 0) (k : Book) (h : Lawful p k) where
   unfolding unlessWrong bookTried crosses
   turned-try i zero r =
       let a = allowed-try p e k h i r in
-      bool-cases (good p (after p (lane p k) i)) (λ t. rw t (commits-move i (a .number<) (commit-from p (lane p k) i (a .is-eligible) t)))
+      bool-cases (good p (after p (lane p k) i)) (λ t. rw t (commits-move i (a .number<) (allowed-commits p e k h i a t)))
       (λ t. rw t (crosses-off (cancelled i) (λ j. eqb j i) refl (λ j. refl)))
   turned-try i (suc n) r = changes-nothing (refused (suc n)) refl (λ j. refl)
 
@@ -35,7 +35,7 @@ module _ (p : Plan) (e : planRefusal p ≡ 0) (k : Book) (h : Lawful p k) where
       bool-cases (ltb (safeMove p (lane p k)) (interactions p))
       (λ t. let l = ltb-true _ _ t in rw t (commits-move (safeMove p (lane p k)) l (safe-commits p (lane p k) l)))
       (λ t. bool-cases (some-below (interactions p) (enabled p (lane p k .state)))
-      (λ u. rw (t, u) (crosses-off penned (eligible p (lane p k .state)) refl (λ j. refl)))
+      (λ u. rw (t, u) (crosses-off penned (enabled p (lane p k .state)) refl (λ j. refl)))
       (λ u. rw (t, u) (changes-nothing stalled refl (λ j. refl))))
 
   pub turned : (c : Call) → Turned p k (turn p k c)

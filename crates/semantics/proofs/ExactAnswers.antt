@@ -3,24 +3,25 @@
 use mathlib.Core.Path.{_≡_, refl, sym, ap, _∙_, subst}
 use mathlib.Core.Logic.{_↔_, Iff·rfl, Iff·trans, Iff·and}
 use Prim.Native.Nat.{ℕ, zero, suc, _≤_, _<_}
-use native.Mathlib.Nat.{le-antisymm}
-use mathlib.Core.Bool.{true, false, cond}
-use mathlib.Core.List.{[]}
+use native.Mathlib.Nat.{le-antisymm, le-trans}
+use mathlib.Core.Bool.{Bool, true, false, cond}
+use mathlib.Core.List.{[], _++_}
 use lib.Dec.{ltb, eqb}
 use Rattle.semantics.specs.Bytes.{bit, mask, withBit}
-use Rattle.semantics.specs.Plan.{Plan, interactions}
+use Rattle.semantics.specs.Plan.{Plan, interactions, below}
 use Rattle.semantics.specs.Refusal.{refusal}
 use Rattle.semantics.specs.Rules.{planRules}
-use Rattle.semantics.specs.Move.{Configuration, enabled, outranked, eligible, after, good, safeMove, initial}
+use Rattle.semantics.specs.Move.{Configuration, enabled, outranked, after, good, mayCommit, safeMove, initial}
 use Rattle.semantics.specs.Image.{Image, image, withMarks, marksOf, configurationOf, lengthRule, imageRules}
 use Rattle.semantics.specs.Calls.{Answer, accepted, offers, committed, cancelled, stalled, penned, refused, Outcome, outcome, unlessRefused, check, startRules, start, clerkRules, offeredMask, Call, offered, try, settle, callRules, performed, called, offeredBits}
-use Rattle.semantics.proofs.Basics.{bool-cases, absurd-bool, ltb-true, ltb-false, eqb-true, eqb-false, some-found}
+use Rattle.semantics.proofs.Basics.{bool-cases, absurd-bool, not-yes, ltb-true, ltb-false, eqb-true, eqb-false, some-found}
 use Rattle.semantics.proofs.Masks.{bit-zero, bit-mask, mask-holds}
-use Rattle.semantics.proofs.Ranking.{eligible-enabled, eligible-top, eligible-from, commit-eligible, commit-good, uncommitted-bad, safe-commits, safe-lowest, safe-none}
+use Rattle.semantics.proofs.Ranking.{above-marked, commit-enabled, commit-good, commit-above, commit-from, safe-commits, safe-lowest, safe-none}
 use Rattle.semantics.proofs.Refusing.{none-refused, all-kept}
-use Rattle.semantics.proofs.RuleLists.{Kept, keeps, kept-number, among}
-use Rattle.semantics.proofs.AcceptedPlan.{mask-small}
-use Rattle.semantics.proofs.LawfulImage.{LawfulImage, lawful-image}
+use Rattle.semantics.proofs.Counting.{among}
+use Rattle.semantics.proofs.RuleLists.{Kept, keeps, kept-append, kept-number}
+use Rattle.semantics.proofs.AcceptedPlan.{accepted-plan, counts-of, mask-small}
+use Rattle.semantics.proofs.LawfulImage.{LawfulImage, lawful-image, marks-kept}
 use Rattle.semantics.proofs.PennedExactly.{Stuck, penned-exactly}
 use Rattle.semantics.proofs.Performed.{Performs, offering, committing, cancelling, settling, penning, stalling, performs, other-kind}
 use Rattle.semantics.proofs.RefusedUnchanged.{Refused, same-not-refused, accepted-not-refused, performed-not-refused, not-refused, called-performed, answers-exactly, own-exactly, kept-exactly, refused-is}
@@ -62,12 +63,12 @@ accepted-exactly p b =
 
 -- ---- offered
 
--- "Offered means enabled, unoutranked, unmarked", of a call that is not refused.
+-- "Offered means enabled, unoutranked, unmarked", of a call that is not refused; what lies above it and is enabled is marked.
 pub record Offered (p : Plan) (b : Image) (i : ℕ) : Type 0 where
   pub unrefused : Kept (callRules p b offered)
   pub number< : i < interactions p
   pub is-enabled : enabled p (configurationOf b .state) i ≡ true
-  pub not-outranked : outranked p (configurationOf b .state) i ≡ false
+  pub not-outranked : outranked p (configurationOf b .state) (bit (marksOf b)) i ≡ false
   pub unmarked : bit (marksOf b) i ≡ false
 
 -- "a refused one kind 5, its number and no bits"
@@ -112,31 +113,59 @@ pub cancelled-exactly : (p : Plan) (b : Image) (i : ℕ)
     → called p b (try i) .answer ≡ cancelled i ↔ Kept (callRules p b (try i)) × (good p (after p (configurationOf b) i) ≡ false)
 cancelled-exactly p b i = call-exactly p b (try i) (cancelled i) (eqb-false 2 5 refl) (try-cancels p b (performs p b (try i)))
 
--- ---- a settling
-
--- "the lowest-numbered enabled, unoutranked move that ends in a good state"
-pub record LowestSafe (p : Plan) (c : Configuration) (i : ℕ) : Type 0 where
+-- "enabled, good, and has no enabled good move above it"
+pub record Allowed (p : Plan) (c : Configuration) (i : ℕ) : Type 0 where
   pub number< : i < interactions p
   pub is-enabled : enabled p (c .state) i ≡ true
-  pub not-outranked : outranked p (c .state) i ≡ false
   pub ends-good : good p (after p c i) ≡ true
-  pub lowest : (j : ℕ) → j < i → enabled p (c .state) j ≡ true → outranked p (c .state) j ≡ false → good p (after p c j) ≡ false
+  pub above-bad : (j : ℕ) → j < interactions p → below p i j ≡ true → enabled p (c .state) j ≡ true → good p (after p c j) ≡ false
+
+pub allowed-exactly : (p : Plan) (c : Configuration) (i : ℕ) → i < interactions p → mayCommit p c i ≡ true ↔ Allowed p c i
+allowed-exactly p c i l = (
+  (λ m. record { number< = l; is-enabled = commit-enabled p c i m; ends-good = commit-good p c i m; above-bad = commit-above p c i m }),
+  (λ a. commit-from p c i (a .is-enabled) (a .ends-good) (a .above-bad)),
+)
+
+-- Above a try that is not refused each enabled move is marked, and ends bad.
+pub tried-above : (p : Plan) (b : Image) (i : ℕ) → Kept (callRules p b (try i)) → (j : ℕ) → j < interactions p → below p i j ≡ true
+    → enabled p (configurationOf b .state) j ≡ true → good p (after p (configurationOf b) j) ≡ false
+unfolding keeps planRules imageRules lengthRule clerkRules callRules
+tried-above p b i h j l up on =
+    let c : Configuration = configurationOf b in
+    let first = kept-append (planRules p ++ imageRules p b) (clerkRules p b i) .0 h .0 in
+    let k : LawfulImage p b = lawful-image p b (all-kept (planRules p ++ imageRules p b) first) in
+    let few = counts-of p (accepted-plan p (k .plan-accepted) .counts) .interactions≤ in
+    let top = not-yes _ (kept-number 18 (callRules p b (try i)) h) in
+    marks-kept p c (marksOf b) (k .marks) j (le-trans l few) (above-marked p (c .state) (bit (marksOf b)) i top j l up on) .ends-bad
+
+-- A try that commits has no enabled good move above.
+pub tried-allowed : (p : Plan) (b : Image) (i : ℕ) → called p b (try i) .answer ≡ committed i → Allowed p (configurationOf b) i
+unfolding keeps planRules imageRules lengthRule clerkRules callRules
+tried-allowed p b i e =
+    let (h, g) = committed-exactly p b i .0 e in
+    record {
+      number< = ltb-true _ _ (kept-number 16 (callRules p b (try i)) h);
+      is-enabled = kept-number 17 (callRules p b (try i)) h;
+      ends-good = g;
+      above-bad = tried-above p b i h;
+    }
+
+-- ---- a settling
+
+-- "the lowest-numbered move that is enabled, good, and has no enabled good move above it"
+pub record LowestSafe (p : Plan) (c : Configuration) (i : ℕ) : Type 0 where
+  pub allowed : Allowed p c i
+  pub lowest : (j : ℕ) → j < i → ¬ Allowed p c j
 
 safe-is-lowest : (p : Plan) (c : Configuration) → safeMove p c < interactions p → LowestSafe p c (safeMove p c)
 safe-is-lowest p c l =
-    let m = safe-commits p c l in
-    let q = commit-eligible p c (safeMove p c) m in
     record {
-      number< = l;
-      is-enabled = eligible-enabled p (c .state) (safeMove p c) q;
-      not-outranked = eligible-top p (c .state) (safeMove p c) q;
-      ends-good = commit-good p c (safeMove p c) m;
-      lowest = λ j h e o. uncommitted-bad p c j (eligible-from p (c .state) j e o) (safe-lowest p c j h);
+      allowed = allowed-exactly p c (safeMove p c) l .0 (safe-commits p c l);
+      lowest = λ j h a. absurd-bool (allowed-exactly p c j (a .number<) .1 a) (safe-lowest p c j h);
     }
 
 safe-le : (p : Plan) (c : Configuration) (i j : ℕ) → LowestSafe p c i → LowestSafe p c j → i ≤ j
-safe-le p c i j a d =
-    bool-cases (ltb j i) (λ l. absurd-bool (d .ends-good) (a .lowest j (ltb-true j i l) (d .is-enabled) (d .not-outranked))) (ltb-false j i)
+safe-le p c i j a d = bool-cases (ltb j i) (λ l. absurd (a .lowest j (ltb-true j i l) (d .allowed))) (ltb-false j i)
 
 module _ (p : Plan) (b : Image) where
   settle-commits : (i : ℕ) {o : Outcome} → Performs p b settle o → o .answer ≡ committed i ↔ LowestSafe p (configurationOf b) i
@@ -149,21 +178,20 @@ module _ (p : Plan) (b : Image) where
   settle-commits i (penning t u) =
       let c : Configuration = configurationOf b in (
         (λ e. other-kind e refl),
-        (λ m. absurd-bool (m .ends-good)
-            (uncommitted-bad p c i (eligible-from p (c .state) i (m .is-enabled) (m .not-outranked)) (safe-none p c t i (m .number<)))),
+        (λ m. let a = m .allowed in absurd-bool (allowed-exactly p c i (a .number<) .1 a) (safe-none p c t i (a .number<))),
       )
-  settle-commits i (stalling n) = (λ e. other-kind e refl, λ m. absurd-bool (m .is-enabled) (n i (m .number<)))
+  settle-commits i (stalling n) = (λ e. other-kind e refl, λ m. absurd-bool (m .allowed .is-enabled) (n i (m .allowed .number<)))
 
   settle-stalls : {o : Outcome} → Performs p b settle o
       → o .answer ≡ stalled ↔ ((i : ℕ) → i < interactions p → enabled p (configurationOf b .state) i ≡ false)
-  settle-stalls (settling l) = (λ e. other-kind e refl, λ n. absurd-bool (safe-is-lowest p (configurationOf b) l .is-enabled) (n _ l))
+  settle-stalls (settling l) = (λ e. other-kind e refl, λ n. absurd-bool (safe-is-lowest p (configurationOf b) l .allowed .is-enabled) (n _ l))
   settle-stalls (penning t u) = (
     (λ e. other-kind e refl),
     (λ n. let (j, l, e) = some-found (interactions p) (enabled p (configurationOf b .state)) u in absurd-bool e (n j l)),
   )
   settle-stalls (stalling n) = (λ e. n, λ m. refl)
 
--- "Settling commits the lowest-numbered enabled, unoutranked move that ends in a good state", and no other.
+-- "Settling commits the lowest-numbered move that is enabled, good, and has no enabled good move above it", and no other.
 pub settled-exactly : (p : Plan) (b : Image) (i : ℕ)
     → called p b settle .answer ≡ committed i ↔ Kept (callRules p b settle) × LowestSafe p (configurationOf b) i
 settled-exactly p b i = call-exactly p b settle (committed i) (eqb-false 1 5 refl) (settle-commits p b i (performs p b settle))
@@ -221,13 +249,13 @@ every-answer p (calling b k) = unless-answer p (calling b k) b (performed p b k)
 
 -- ---- the bytes after each answer
 
--- What the image b is after an answer of offered, try or settle: the new state without marks after a commit, one more mark after a cancelled move, every enabled, unoutranked
+-- What the image b is after an answer of offered, try or settle: the new state without marks after a commit, one more mark after a cancelled move, every enabled
 -- interaction marked after penned; as it was after any other.
 unfoldable pub bytesAfter : Plan → Image → Answer → Image
 bytesAfter p b a =
     cond (eqb (a .kind) 1) (image p (after p (configurationOf b) (a .number)) 0)
     (cond (eqb (a .kind) 2) (withMarks b (withBit (marksOf b) (a .number)))
-    (cond (eqb (a .kind) 4) (withMarks b (mask (interactions p) (eligible p (configurationOf b .state)))) b))
+    (cond (eqb (a .kind) 4) (withMarks b (mask (interactions p) (enabled p (configurationOf b .state)))) b))
 
 performed-bytes : (p : Plan) (b : Image) (k : Call) {o : Outcome} → Performs p b k o → o .image ≡ bytesAfter p b (o .answer)
 unfolding bytesAfter
@@ -261,23 +289,20 @@ cancelled-bytes p b i e =
     rw (called-performed p b (try i) (same-not-refused e (eqb-false 2 5 refl)))
     (bad-cancelled p b i (eqb-true _ _ (kept-number 11 (callRules p b (try i)) h)) g .1)
 
--- "penned otherwise, with every enabled, unoutranked interaction marked"
-pub record EligibleMarked (p : Plan) (b b' : Image) : Type 0 where
-  pub marks : (j : ℕ) → bit (marksOf b') j ≡ true ↔ (j < interactions p) × (enabled p (configurationOf b .state) j ≡ true) × (outranked p (configurationOf b .state) j ≡ false)
+-- "Penned .. leaves every enabled interaction marked"
+pub record EnabledMarked (p : Plan) (b b' : Image) : Type 0 where
+  pub marks : (j : ℕ) → bit (marksOf b') j ≡ true ↔ (j < interactions p) × (enabled p (configurationOf b .state) j ≡ true)
   pub others : SameButMarks b' b
 
-pub penned-bytes : (p : Plan) (b : Image) → called p b settle .answer ≡ penned → EligibleMarked p b (called p b settle .image)
+pub penned-bytes : (p : Plan) (b : Image) → called p b settle .answer ≡ penned → EnabledMarked p b (called p b settle .image)
 unfolding callRules bytesAfter
 penned-bytes p b e =
-    let s = configurationOf b .state in
-    let m : ℕ = mask (interactions p) (eligible p s) in
+    let on : ℕ → Bool = enabled p (configurationOf b .state) in
+    let m : ℕ = mask (interactions p) on in
     let (h, _) = call-exactly p b settle penned (eqb-false 4 5 refl) Iff·rfl .0 e in
     let g : LawfulImage p b = lawful-image p b (all-kept (callRules p b settle) h) in
-    subst (EligibleMarked p b) (sym (bytes-after p b settle ∙ ap (bytesAfter p b) e))
+    subst (EnabledMarked p b) (sym (bytes-after p b settle ∙ ap (bytesAfter p b) e))
     (record {
-      marks = λ j. rw (marks-written b m (g .long) (mask-small p (g .plan-accepted) (eligible p s))) (
-        (λ t. let (l, q) = mask-holds (interactions p) (eligible p s) j t in (l, eligible-enabled p s j q, eligible-top p s j q)),
-        (λ (l, n, o). bit-mask (interactions p) (eligible p s) j l ∙ eligible-from p s j n o),
-      );
+      marks = λ j. rw (marks-written b m (g .long) (mask-small p (g .plan-accepted) on)) (mask-holds (interactions p) on j, λ (l, n). bit-mask (interactions p) on j l ∙ n);
       others = others-same b m (g .long);
     })

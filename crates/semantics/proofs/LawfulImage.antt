@@ -1,20 +1,20 @@
 -- What each of 11 to 14 leaves of an image that it does not refuse, by name; and all of it, where neither plan nor image is refused.
-use mathlib.Core.Path.{_≡_, refl, sym, _∙_}
+use mathlib.Core.Path.{_≡_, refl, sym, ap, _∙_}
 use Prim.Native.Nat.{ℕ, _<_}
-use mathlib.Core.Bool.{true, false}
+use mathlib.Core.Bool.{Bool, true, false, not}
 use mathlib.Core.List.{_++_}
 use lib.ListN.{length}
 use Rattle.semantics.specs.Bytes.{implies, bit}
-use Rattle.semantics.specs.Plan.{Plan, maxComponents, maxVariables, maxInteractions, interactions}
+use Rattle.semantics.specs.Plan.{Plan, maxComponents, maxVariables, maxInteractions, interactions, below}
 use Rattle.semantics.specs.Refusal.{refusal}
 use Rattle.semantics.specs.Rules.{planRules, planRefusal}
-use Rattle.semantics.specs.Move.{Configuration, eligible, after, oraclesInRange, good}
+use Rattle.semantics.specs.Move.{Configuration, enabled, after, oraclesInRange, good}
 use Rattle.semantics.specs.Image.{Image, imageLength, marksOf, configurationOf, headMatches, locationOk, lastPortOk, valueOk, configurationOk, markOk, marksOk, lengthRule, imageRules}
-use Rattle.semantics.proofs.Basics.{not-yes, implies-at, each, ltb-true, eqb-true, every-at}
+use Rattle.semantics.proofs.Basics.{not-yes, implies-yes, implies-at, each, all-of, ltb-true, lt-ltb, eqb-true, every-at, every-all}
 use Rattle.semantics.proofs.Refusing.{numbered, none-refused, refusal-after, refusal-before}
 use Rattle.semantics.proofs.RuleLists.{keeps, rule-kept}
 use Rattle.semantics.proofs.AcceptedPlan.{plan-numbered}
-use Rattle.semantics.proofs.Ranking.{uncommitted-bad}
+use Rattle.semantics.proofs.Ranking.{above-marked, unoutranked, eligible-enabled, eligible-top, eligible-from}
 
 -- 13: what it leaves of a configuration
 pub record Configured (p : Plan) (c : Configuration) : Type 0 where
@@ -36,22 +36,38 @@ configured p c e =
       value = every-at maxVariables (valueOk p (c .state)) v;
     }
 
--- 14: what it leaves of a mark
-pub record MarkKept (p : Plan) (c : Configuration) (i : ℕ) : Type 0 where
+-- 14: what it leaves of a mark. 02, job 3: "on an enabled bad interaction and .. each enabled one above it is marked too"
+pub record MarkKept (p : Plan) (c : Configuration) (marked : ℕ → Bool) (i : ℕ) : Type 0 where
   pub number< : i < interactions p
-  pub is-eligible : eligible p (c .state) i ≡ true
+  pub is-enabled : enabled p (c .state) i ≡ true
   pub ends-bad : good p (after p c i) ≡ false
+  pub above : (j : ℕ) → j < interactions p → below p i j ≡ true → enabled p (c .state) j ≡ true → marked j ≡ true
 
-pub mark-kept : (p : Plan) (c : Configuration) (i : ℕ) → markOk p c i ≡ true → MarkKept p c i
+pub mark-kept : (p : Plan) (c : Configuration) (marked : ℕ → Bool) (i : ℕ) → markOk p c marked i ≡ true → MarkKept p c marked i
 unfolding markOk
-mark-kept p c i e =
+mark-kept p c marked i e =
     let (l, (q, (m, _))) = each _ e in
-    record { number< = ltb-true _ _ l; is-eligible = q; ends-bad = uncommitted-bad p c i q (not-yes _ m) }
+    let s = c .state in
+    record { number< = ltb-true _ _ l; is-enabled = eligible-enabled p s marked i q; ends-bad = not-yes _ m; above = above-marked p s marked i (eligible-top p s marked i q) }
 
-pub marks-kept : (p : Plan) (c : Configuration) (m : ℕ) → marksOk p c m ≡ true → (i : ℕ) → i < maxInteractions → bit m i ≡ true → MarkKept p c i
+-- and nothing more
+pub mark-ok : (p : Plan) (c : Configuration) (marked : ℕ → Bool) (i : ℕ) → MarkKept p c marked i → markOk p c marked i ≡ true
+unfolding markOk
+mark-ok p c marked i k =
+    let s = c .state in
+    let q = eligible-from p s marked i (k .is-enabled) (unoutranked p s marked i (k .above)) in
+    all-of _ (lt-ltb _ _ (k .number<), (q, (ap not (k .ends-bad), tt)))
+
+pub marks-kept : (p : Plan) (c : Configuration) (m : ℕ) → marksOk p c m ≡ true → (i : ℕ) → i < maxInteractions → bit m i ≡ true → MarkKept p c (bit m) i
 unfolding marksOk
 marks-kept p c m e i l b =
-    mark-kept p c i (implies-at (bit m i) (markOk p c i) (every-at maxInteractions (λ j. implies (bit m j) (markOk p c j)) e i l) b)
+    mark-kept p c (bit m) i (implies-at (bit m i) (markOk p c (bit m) i) (every-at maxInteractions (λ j. implies (bit m j) (markOk p c (bit m) j)) e i l) b)
+
+pub marks-ok : (p : Plan) (c : Configuration) (m : ℕ) → ((i : ℕ) → i < maxInteractions → bit m i ≡ true → MarkKept p c (bit m) i) → marksOk p c m ≡ true
+unfolding marksOk
+marks-ok p c m f =
+    every-all maxInteractions (λ i. implies (bit m i) (markOk p c (bit m) i))
+    (λ i l. implies-yes (bit m i) (markOk p c (bit m) i) (λ b. mark-ok p c (bit m) i (f i l b)))
 
 -- neither plan nor image is refused
 pub record LawfulImage (p : Plan) (b : Image) : Type 0 where

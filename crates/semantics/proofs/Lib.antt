@@ -6,10 +6,12 @@ pub mod Booleans
 pub mod BookTurns
 pub mod BytesButMarks
 pub mod CasesHold
+pub mod Clearing
 pub mod CodeRules
 pub mod CommittedRun
 pub mod Commute
 pub mod Comparisons
+pub mod Counting
 pub mod Demand3
 pub mod EndsHold
 pub mod Evaluator
@@ -20,11 +22,14 @@ pub mod ImagesRead
 pub mod LawfulImage
 pub mod Magnitudes
 pub mod MarksExactly
+pub mod MarksIgnored
 pub mod Masks
+pub mod Maximal
 pub mod Meaning
 pub mod OldImages
 pub mod OldMeaning
 pub mod OldPlans
+pub mod OldRanking
 pub mod OldSums
 pub mod OneCall
 pub mod OneMoreOracle

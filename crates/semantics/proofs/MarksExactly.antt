@@ -4,19 +4,19 @@ use mathlib.Core.Path.{_≡_, refl, sym, ap, _∙_}
 use Prim.Native.Nat.{ℕ}
 use mathlib.Core.Bool.{Bool, true, false, not, cond, _||_, or-false, or-assoc}
 use mathlib.Core.List.{List, [], _∷_}
-use lib.Dec.{ltb}
 use Rattle.semantics.specs.Bytes.{bit, mask}
 use Rattle.semantics.specs.Plan.{Plan, interactions}
 use Rattle.semantics.specs.Rules.{planRefusal}
 use Rattle.semantics.specs.Move.{Configuration}
-use Rattle.semantics.specs.Image.{Image, marksOf, configurationOf, markOk}
+use Rattle.semantics.specs.Image.{Image, marksOf, configurationOf}
 use Rattle.semantics.specs.Calls.{Outcome, start, Call, calledAll}
 use Rattle.semantics.specs.Book.{Book, blank, lane, bookImage, Entry, turn, told, kept}
 use Rattle.semantics.specs.Run.{commits, noCommit, sinceCommit, leftBy, crosses, someCrosses}
-use Rattle.semantics.proofs.Basics.{bool-cases, absurd-bool, not-yes, and-both, ltb-true, ltb-false}
-use Rattle.semantics.proofs.Masks.{bit-mask, bit-mask-over, mask-same}
-use Rattle.semantics.proofs.BookStep.{Lawful, turn-lawful, held-lane, held-marks}
+use Rattle.semantics.proofs.Basics.{bool-cases, absurd-bool, not-yes, and-both}
+use Rattle.semantics.proofs.Masks.{mask-same}
+use Rattle.semantics.proofs.BookStep.{Lawful, turn-lawful, held-lane, held-marks, mark-lawful}
 use Rattle.semantics.proofs.BookTurns.{Turned, commits-move, crosses-off, changes-nothing, turned, left-told, kept-lawful}
+use Rattle.semantics.proofs.LawfulImage.{MarkKept}
 use Rattle.semantics.proofs.Demand3.{Starts, start-plan, start-is, blank-lawful, calls-told}
 
 -- where nothing was committed, all outcomes are since the last commit
@@ -76,8 +76,8 @@ module _ (p : Plan) (e : planRefusal p ≡ 0) where
 pub record Marked (p : Plan) (b : Image) (os : List Outcome) : Type 0 where
   -- bit i of the marks is set exactly where some outcome since the last start or commit crossed off move i
   pub exactly : marksOf b ≡ mask (interactions p) (λ i. someCrosses p (configurationOf b) i (sinceCommit os))
-  -- a marked move is one of the plan's, enabled and not outranked, and ends bad
-  pub none-good : (i : ℕ) → bit (marksOf b) i ≡ true → markOk p (configurationOf b) i ≡ true
+  -- a marked move is one of the plan's, enabled, and ends bad, and each enabled one above it is marked too
+  pub none-good : (i : ℕ) → bit (marksOf b) i ≡ true → MarkKept p (configurationOf b) (bit (marksOf b)) i
 
 marked-told : (p : Plan) → planRefusal p ≡ 0 → (cs : List Call) → Lawful p blank → Marked p (bookImage p (kept p blank cs)) (told p blank cs)
 marked-told p e cs h =
@@ -89,16 +89,9 @@ marked-told p e cs h =
           (held-marks p e k l
           ∙ mask-same (interactions p) (λ i. someCrosses p (lane p k) i (sinceCommit (told p blank cs))) (k .crossed)
           (λ i m. set-kept p e blank h cs i ∙ ap (λ (b : Bool). b || someCrosses p (lane p k) i (sinceCommit (told p blank cs))) (no-set (noCommit (told p blank cs)))));
-      none-good = λ i m. rw (held-lane p e k l) (bad i (sym (ap (λ (n : ℕ). bit n i) (held-marks p e k l)) ∙ m));
+      none-good = λ i m. rw (held-lane p e k l, held-marks p e k l) (mark-lawful p e k l i (sym (ap (λ (n : ℕ). bit n i) (held-marks p e k l)) ∙ m));
     }
   where
-    bad : (i : ℕ) → bit (mask (interactions p) (kept p blank cs .crossed)) i ≡ true → markOk p (lane p (kept p blank cs)) i ≡ true
-    bad i m =
-        let k : Book = kept p blank cs in
-        bool-cases (ltb i (interactions p))
-        (λ t. kept-lawful p e blank h cs .crossed-bad i (ltb-true _ _ t) (sym (bit-mask (interactions p) (k .crossed) i (ltb-true _ _ t)) ∙ m))
-        (λ t. absurd-bool m (bit-mask-over (interactions p) (k .crossed) i (ltb-false _ _ t)))
-
     no-set : (b : Bool) → cond b false false ≡ false
     no-set true = refl
     no-set false = refl

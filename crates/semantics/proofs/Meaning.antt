@@ -1,15 +1,15 @@
 -- All definitions opened at once, a module of specs/ at a time: what a proof says that computes them.
 use Rattle.semantics.specs.Book.{replay, lane, bookImage, bookOffered, bookRefusal, bookTried, unlessWrong, bookSettled, turn, told, kept, bookSession}
-use Rattle.semantics.specs.Bytes.{u16, u32, u64, leBytes, allOf, implies, every, some-below, lowest, table, bit, mask, withBit}
+use Rattle.semantics.specs.Bytes.{u16, u32, u64, leBytes, allOf, implies, every, some-below, lowest, satisfying, table, bit, mask, withBit}
 use Rattle.semantics.specs.Calls.{packed, unlessRefused, check, startRules, start, clerkRules, offeredMask, tried, settled, callRules, performed, called, offeredBits, calledAll, session}
 use Rattle.semantics.specs.Cases.{agree, allAgree, startImage, taredImage, cases}
 use Rattle.semantics.specs.Code.{instruction, decode, operate, operatorPops, operatorPushes, perform, ran, guardHolds, acted, ownedBy, sharedIn, declared, allowed, pops, pushes, depthAfter, deeper, depth, finalDepth, endsAt, spanOk}
 use Rattle.semantics.specs.Image.{head, valueBytes, image, withMarks, marksOf, configurationOf, oracleByte, headMatches, locationOk, lastPortOk, valueOk, configurationOk, markOk, marksOk, lengthRule, imageRules}
-use Rattle.semantics.specs.Move.{ready, chosen, chosenIn, enabled, outranked, eligible, actedBelow, fired, letter, nextStates, judged, after, stateInRange, oraclesInRange, lowestVerdict, oraclesGood, good, mayCommit, safeMove, initialState, initial}
+use Rattle.semantics.specs.Move.{ready, chosen, chosenIn, enabled, outranked, eligible, actedBelow, fired, letter, nextStates, judged, after, stateInRange, oraclesInRange, lowestVerdict, oraclesGood, good, safe, dominated, mayCommit, safeMove, initialState, initial}
 use Rattle.semantics.specs.Plan.{oracleStates, statesBefore, sectionSize, sectionStart, takesPart, below, verdict, next}
 use Rattle.semantics.specs.Refusal.{unless, refusal}
 use Rattle.semantics.specs.Rules.{within, headOk, stateCountOk, oracleCountsOk, countsOk, layoutOk, componentOk, variableOk, transitionOk, portOk, interactionOk, rankOk, verdictOk, followerOk, oracleOk, tableOk, transitionCode, interactionCode, propositionCode, codeOk, planRules, planRefusal}
-use Rattle.semantics.specs.Run.{isRun, committedMoves, noCommit, crosses, someCrosses}
+use Rattle.semantics.specs.Run.{isRun, enabledAbove, level, levels, triesOf, triedAnswers, committedMoves, noCommit, crosses, someCrosses}
 use Rattle.semantics.specs.Sample.{joined, places, sections, counts, offsets, written, scale, sample, ranked, weighedAtStart, still, underflow}
 use Rattle.semantics.specs.Signed.{signed, residue, saturate, add, subtract, extend, equalZ, atLeast, holds, truth}
 
@@ -18,7 +18,7 @@ unfolding replay lane bookImage bookOffered bookRefusal bookTried unlessWrong bo
 inBook = tt
 
 unfoldable pub inBytes : Unit {0}
-unfolding u16 u32 u64 leBytes allOf implies every some-below lowest table bit mask withBit
+unfolding u16 u32 u64 leBytes allOf implies every some-below lowest satisfying table bit mask withBit
 inBytes = tt
 
 unfoldable pub inCalls : Unit {0}
@@ -38,7 +38,7 @@ unfolding head valueBytes image withMarks marksOf configurationOf oracleByte hea
 inImage = tt
 
 unfoldable pub inMove : Unit {0}
-unfolding ready chosen chosenIn enabled outranked eligible actedBelow fired letter nextStates judged after stateInRange oraclesInRange lowestVerdict oraclesGood good mayCommit safeMove initialState initial
+unfolding ready chosen chosenIn enabled outranked eligible actedBelow fired letter nextStates judged after stateInRange oraclesInRange lowestVerdict oraclesGood good safe dominated mayCommit safeMove initialState initial
 inMove = tt
 
 unfoldable pub inPlan : Unit {0}
@@ -54,7 +54,7 @@ unfolding within headOk stateCountOk oracleCountsOk countsOk layoutOk componentO
 inRules = tt
 
 unfoldable pub inRun : Unit {0}
-unfolding isRun committedMoves noCommit crosses someCrosses
+unfolding isRun enabledAbove level levels triesOf triedAnswers committedMoves noCommit crosses someCrosses
 inRun = tt
 
 unfoldable pub inSample : Unit {0}

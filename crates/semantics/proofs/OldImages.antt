@@ -3,7 +3,7 @@
 use mathlib.Core.Path.{_≡_, refl, sym, ap, ap₂, _∙_}
 use Prim.Native.Nat.{ℕ, zero, suc, _+_, _<_}
 use native.Mathlib.Omega.{arith}
-use mathlib.Core.Bool.{and-true}
+use mathlib.Core.Bool.{Bool, and-true}
 use mathlib.Core.List.{List, [], _∷_, _++_}
 use lib.ListN.{length, getD, take, drop}
 use lib.Seq.{getD-take, getD-drop}
@@ -21,7 +21,7 @@ use Rattle.semantics.proofs.RuleLists.{keeps, rule-kept}
 use Rattle.semantics.proofs.OneCall.{others-same}
 use Rattle.semantics.proofs.Performed.{Performs, offering, committing, cancelling, settling, penning, stalling, performs}
 use Rattle.semantics.proofs.ExactAnswers.{start-bytes}
-use Rattle.semantics.proofs.OldPlans.{OldPlan, none-added, same-rules, same-refusal, asNow, asOld, same-after, same-initial, same-good, same-good-after, same-mayCommit, same-safeMove}
+use Rattle.semantics.proofs.OldPlans.{OldPlan, none-added, same-rules, same-refusal, asNow, asOld, same-after, same-initial, same-good, same-good-after, same-safeMove}
 use Rattle.semantics.proofs.OldMeaning as old
 
 -- An image with no state of an added oracle: bytes 9 to 11 are zero.
@@ -106,14 +106,14 @@ module _ (p : Plan) (o : OldPlan p) where
   same-configuration-ok b z = rw (same-in-range b z, same-good p o (configurationOf b), oracle-read b 0 (omega arith))
 
   -- Rule 14.
-  same-mark-ok : (c : Configuration) (i : ℕ) → markOk p c i ≡ old.markOk p (asOld c) i
+  same-mark-ok : (c : Configuration) (marked : ℕ → Bool) (i : ℕ) → markOk p c marked i ≡ old.markOk p (asOld c) marked i
   unfolding markOk old.markOk
-  same-mark-ok c i = rw (same-mayCommit p o c i)
+  same-mark-ok c marked i = rw (same-good-after p o c i)
 
   pub same-marks-ok : (b : Image) (m : ℕ) → marksOk p (configurationOf b) m ≡ old.marksOk p (old.configurationOf b) m
   unfolding marksOk old.marksOk
   same-marks-ok b m =
-      (λ i. every maxInteractions (λ k. implies (bit m k) (same-mark-ok (configurationOf b) k i))) ∙ ap (λ (c : old.Configuration). old.marksOk p c m) (same-read b)
+      (λ i. every maxInteractions (λ k. implies (bit m k) (same-mark-ok (configurationOf b) (bit m) k i))) ∙ ap (λ (c : old.Configuration). old.marksOk p c m) (same-read b)
 
   -- 11 to 14.
   pub same-image-rules : (b : Image) → OldImage b → imageRules p b ≡ old.imageRules p b

@@ -1,14 +1,14 @@
 -- The meaning before job 1 of 02, for the theorem that old plans mean what they meant; no call cites it.
--- Here stand the definitions that moved with job 1, and those over them, as they were. What did not move with it is cited as it stands, so sums stop at
--- the ends here too: the theorem speaks of the oracles, and `Wrapping` says where job 2 made sums differ.
+-- Here stand the definitions that moved with job 1, and those over them, with one oracle. What did not move with it is as it stands now: sums stop at the ends
+-- (`Wrapping` says where job 2 made them differ), and the ranking is that of job 3 (`OldRanking` says what it kept). The theorem speaks of the oracles.
 use Prim.Native.Nat.{ℕ, zero, suc, _+_, _*_}
-use mathlib.Core.Bool.{Bool, not, cond, _||_}
+use mathlib.Core.Bool.{Bool, not, cond, _&&_, _||_}
 use mathlib.Core.List.{List, [], _∷_, _++_}
 use lib.ListN.{length, getD, take, drop}
 use lib.Dec.{leb, ltb, eqb}
 use Rattle.semantics.specs.Bytes.{byte, u16, u32, leBytes, allOf, implies, every, some-below, lowest, table, bit, mask, withBit}
 use Rattle.semantics.specs.Signed.{signed}
-use Rattle.semantics.specs.Plan.{Plan, maxComponents, maxVariables, maxInteractions, numberByte, totalLength, components, variables, transitions, interactions, propositions, firstOracle, codeWords, letters, section}
+use Rattle.semantics.specs.Plan.{Plan, maxComponents, maxVariables, maxInteractions, numberByte, totalLength, components, variables, transitions, interactions, propositions, firstOracle, codeWords, letters, section, below}
 use Rattle.semantics.specs.Code.{State}
 use Rattle.semantics.specs.Refusal.{Rule, rule, refusal}
 use Rattle.semantics.specs.Rules.{within, componentOk, variableOk, transitionOk, interactionOk, rankOk, verdictOk, codeRules}
@@ -118,11 +118,19 @@ oracleGood p q = not (eqb (verdict p q) 0)
 unfoldable pub good : Plan → Configuration → Bool
 good p c = oracleGood p (c .oracle)
 
--- The move may be committed: it is enabled, not outranked and ends good.
-unfoldable pub mayCommit : Plan → Configuration → ℕ → Bool
-mayCommit p c i = allOf (eligible p (c .state) i ∷ good p (after p c i) ∷ [])
+-- The move is enabled and ends good.
+unfoldable pub safe : Plan → Configuration → ℕ → Bool
+safe p c i = allOf (enabled p (c .state) i ∷ good p (after p c i) ∷ [])
 
--- "Settling commits the lowest-numbered enabled, unoutranked move that ends in a good state": that move, or I where there is none.
+-- An enabled good move lies above.
+unfoldable pub dominated : Plan → Configuration → ℕ → Bool
+dominated p c i = some-below (interactions p) (λ j. below p i j && safe p c j)
+
+-- The move may be committed.
+unfoldable pub mayCommit : Plan → Configuration → ℕ → Bool
+mayCommit p c i = allOf (safe p c i ∷ not (dominated p c i) ∷ [])
+
+-- The lowest such move, or I where there is none.
 unfoldable pub safeMove : Plan → Configuration → ℕ
 safeMove p c = lowest (interactions p) (mayCommit p c)
 
@@ -169,11 +177,11 @@ configurationOk p c =
     ∷ every maxVariables (valueOk p (c .state)) ∷ [])
 
 -- 14: "a mark at or above I, or on an interaction that is not enabled, is outranked, or would end in a good state".
-unfoldable pub markOk : Plan → Configuration → ℕ → Bool
-markOk p c i = allOf (ltb i (interactions p) ∷ eligible p (c .state) i ∷ not (mayCommit p c i) ∷ [])
+unfoldable pub markOk : Plan → Configuration → (ℕ → Bool) → ℕ → Bool
+markOk p c marked i = allOf (ltb i (interactions p) ∷ eligible p (c .state) marked i ∷ not (good p (after p c i)) ∷ [])
 
 unfoldable pub marksOk : Plan → Configuration → ℕ → Bool
-marksOk p c m = every maxInteractions (λ i. implies (bit m i) (markOk p c i))
+marksOk p c m = every maxInteractions (λ i. implies (bit m i) (markOk p c (bit m) i))
 
 -- 01, "The caller's programmer" and "The keeper of the image": 11 to 14, in order.
 unfoldable pub imageRules : Plan → Image → List Rule
@@ -196,12 +204,12 @@ start p b = unlessRefused (refusal (startRules p b)) b (outcome accepted (image 
 -- "16: the number is I or more. 17: not enabled. 18: outranked. 19: marked."
 unfoldable pub clerkRules : Plan → Image → ℕ → List Rule
 clerkRules p b i =
-    rule 16 (ltb i (interactions p)) ∷ rule 17 (enabled p (configurationOf b .state) i) ∷ rule 18 (not (outranked p (configurationOf b .state) i))
+    rule 16 (ltb i (interactions p)) ∷ rule 17 (enabled p (configurationOf b .state) i) ∷ rule 18 (not (outranked p (configurationOf b .state) (bit (marksOf b)) i))
     ∷ rule 19 (not (bit (marksOf b) i)) ∷ []
 
 -- "Offered means enabled, unoutranked, unmarked. The offered answer is a 64-bit number with bit i for interaction i."
 unfoldable pub offeredMask : Plan → Image → ℕ
-offeredMask p b = mask (interactions p) (λ i. allOf (eligible p (configurationOf b .state) i ∷ not (bit (marksOf b) i) ∷ []))
+offeredMask p b = mask (interactions p) (λ i. allOf (eligible p (configurationOf b .state) (bit (marksOf b)) i ∷ not (bit (marksOf b) i) ∷ []))
 
 -- "A good move is committed: new state, new oracle state, marks cleared. A bad one is cancelled: its mark is set and no other byte differs."
 unfoldable pub tried : Plan → Image → ℕ → Outcome
@@ -215,7 +223,7 @@ settled p b =
     let i = safeMove p (configurationOf b) in
     cond (ltb i (interactions p)) (outcome (committed i) (image p (after p (configurationOf b) i) 0))
     (cond (some-below (interactions p) (enabled p (configurationOf b .state)))
-    (outcome penned (withMarks b (mask (interactions p) (eligible p (configurationOf b .state))))) (outcome stalled b))
+    (outcome penned (withMarks b (mask (interactions p) (enabled p (configurationOf b .state))))) (outcome stalled b))
 
 -- Each call's refusals, in order: offered and settle 1 to 14, try 1 to 14 and then 16 to 19.
 unfoldable pub callRules : Plan → Image → Call → List Rule

@@ -4,16 +4,16 @@ use mathlib.Core.Path.{_≡_, refl, ap, ap₂, _∙_}
 use Prim.Native.Nat.{ℕ, zero, suc, _+_, _<_}
 use native.Mathlib.Nat.{zero-add}
 use native.Mathlib.Omega.{arith}
-use mathlib.Core.Bool.{true, and-true}
+use mathlib.Core.Bool.{true, not, _&&_, and-true}
 use mathlib.Core.List.{List, [], _∷_, _++_}
 use lib.ListN.{length, getD}
 use lib.Dec.{eqb}
-use Rattle.semantics.specs.Bytes.{byte, leBytes, allOf, every, lowest}
-use Rattle.semantics.specs.Plan.{Plan, maxOracles, totalLength, interactions, addedOracles, oracleStates, letters, section, statesBefore, sectionSize, sectionStart, verdict, next}
+use Rattle.semantics.specs.Bytes.{byte, leBytes, allOf, every, some-below, lowest}
+use Rattle.semantics.specs.Plan.{Plan, maxOracles, totalLength, interactions, addedOracles, oracleStates, letters, section, statesBefore, sectionSize, sectionStart, below, verdict, next}
 use Rattle.semantics.specs.Code.{State}
 use Rattle.semantics.specs.Refusal.{Rule, unless, refusal}
 use Rattle.semantics.specs.Rules.{headOk, stateCountOk, oracleCountsOk, countsOk, layoutOk, verdictOk, followerOk, oracleOk, tableOk, planRules, planRefusal}
-use Rattle.semantics.specs.Move.{Configuration, fired, letter, nextStates, judged, after, initialState, lowestVerdict, oraclesGood, good, mayCommit, safeMove, initial}
+use Rattle.semantics.specs.Move.{Configuration, fired, letter, nextStates, judged, after, initialState, lowestVerdict, oraclesGood, good, safe, dominated, mayCommit, safeMove, initial}
 use Rattle.semantics.specs.Sample.{joined, places, sections, counts, offsets, written, scale, sample}
 use Rattle.semantics.proofs.Basics.{eqb-true, every-at}
 use Rattle.semantics.proofs.OldMeaning as old
@@ -161,10 +161,15 @@ module _ (p : Plan) (o : OldPlan p) where
   pub same-good-after : (c : Configuration) (i : ℕ) → good p (after p c i) ≡ old.good p (old.after p (asOld c) i)
   same-good-after c i = rw (same-after c i) (same-good (asNow (old.after p (asOld c) i)))
 
+  -- A move is enabled and ends good.
+  pub same-safe : (c : Configuration) (i : ℕ) → safe p c i ≡ old.safe p (asOld c) i
+  unfolding safe old.safe
+  same-safe c i = rw (same-good-after c i)
+
   -- A move may be committed.
   pub same-mayCommit : (c : Configuration) (i : ℕ) → mayCommit p c i ≡ old.mayCommit p (asOld c) i
-  unfolding mayCommit old.mayCommit
-  same-mayCommit c i = rw (same-good-after c i)
+  unfolding mayCommit old.mayCommit dominated old.dominated
+  same-mayCommit c i = λ k. allOf (same-safe c i k ∷ not (some-below (interactions p) (λ j. below p i j && same-safe c j k)) ∷ [])
 
   -- The move that settling commits.
   pub same-safeMove : (c : Configuration) → safeMove p c ≡ old.safeMove p (asOld c)

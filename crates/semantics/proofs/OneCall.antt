@@ -64,13 +64,14 @@ module _ (p : Plan) (b : Image) where
   -- "Offered means enabled, unoutranked, unmarked. The offered answer is a 64-bit number with bit i for interaction i."
   pub offered-means : (i : ℕ) → i < interactions p
       → bit (performed p b offered .answer .bits) i ≡ true
-      ↔ ((enabled p (configurationOf b .state) i ≡ true) × (outranked p (configurationOf b .state) i ≡ false) × (bit (marksOf b) i ≡ false))
+      ↔ ((enabled p (configurationOf b .state) i ≡ true) × (outranked p (configurationOf b .state) (bit (marksOf b)) i ≡ false) × (bit (marksOf b) i ≡ false))
   unfolding performed offeredMask
   offered-means i l =
       let s = configurationOf b .state in
-      let is-bit = bit-mask (interactions p) (λ j. allOf (eligible p s j ∷ not (bit (marksOf b) j) ∷ [])) i l in (
-        (λ h. let (e, (u, _)) = each _ (sym is-bit ∙ h) in (eligible-enabled p s i e, eligible-top p s i e, not-yes (bit (marksOf b) i) u)),
-        (λ (e, o, u). is-bit ∙ all-of _ (eligible-from p s i e o, (ap not u, tt))),
+      let m = bit (marksOf b) in
+      let is-bit = bit-mask (interactions p) (λ j. allOf (eligible p s m j ∷ not (m j) ∷ [])) i l in (
+        (λ h. let (e, (u, _)) = each _ (sym is-bit ∙ h) in (eligible-enabled p s m i e, eligible-top p s m i e, not-yes (m i) u)),
+        (λ (e, o, u). is-bit ∙ all-of _ (eligible-from p s m i e o, (ap not u, tt))),
       )
 
   -- "A good move is committed: new state, new oracle state, marks cleared."
@@ -98,7 +99,7 @@ module _ (p : Plan) (b : Image) where
         },
       )
 
-  -- "Settling commits the lowest-numbered enabled, unoutranked move that ends in a good state."
+  -- "Settling commits the lowest-numbered move that is enabled, good, and has no enabled good move above it."
   pub safe-committed : safeMove p (configurationOf b) < interactions p
       → performed p b settle ≡ outcome (committed (safeMove p (configurationOf b))) (image p (after p (configurationOf b) (safeMove p (configurationOf b))) 0)
   unfolding performed settled

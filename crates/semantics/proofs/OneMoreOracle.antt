@@ -4,18 +4,17 @@ use Prim.Native.Nat.{ℕ, zero, suc, _+_, _^_, _≤_, _<_}
 use native.Mathlib.Nat.{le-of-suc-le-suc}
 use native.Mathlib.Omega.{arith}
 use mathlib.Core.Bool.{true, false, not}
-use mathlib.Core.List.{List, [], _∷_}
+use mathlib.Core.List.{List}
 use lib.ListN.{getD}
-use lib.Dec.{ltb, eqb}
+use lib.Dec.{eqb}
 use Rattle.semantics.specs.Plan.{Plan, maxOracles, interactions, letters, oracles, oracleStates, statesBefore, startStates, sectionSize, oracleAt, verdict, next}
 use Rattle.semantics.specs.Rules.{planRefusal}
-use Rattle.semantics.specs.Move.{Configuration, enabled, fired, letter, judged, after, oraclesInRange, eligible, mayCommit, good, initialState, initial}
-use Rattle.semantics.specs.Run.{isRun}
-use Rattle.semantics.proofs.Basics.{bool-cases, absurd-bool, each, all-of, ltb-true, every-at, every-all}
+use Rattle.semantics.specs.Move.{Configuration, enabled, fired, letter, judged, after, oraclesInRange, good, safe, initialState, initial}
+use Rattle.semantics.proofs.Basics.{bool-cases, absurd-bool, every-at, every-all}
 use Rattle.semantics.proofs.AcceptedPlan.{accepted-plan, counts-of}
 use Rattle.semantics.proofs.Oracles.{states-end, range-at, range-lt, used-reads, next-states-in-range, start-in-range, good-exactly}
-use Rattle.semantics.proofs.Ranking.{eligible-enabled, commit-eligible, commit-good, commit-from}
-use Rattle.semantics.proofs.SameTables.{OneMore, Alike, same-byte, row, same-interactions, same-propositions, same-first-states, same-first-oracle, same-eligible, same-move, same-letter, same-initial}
+use Rattle.semantics.proofs.Ranking.{safe-enabled, safe-good, safe-from}
+use Rattle.semantics.proofs.SameTables.{OneMore, Alike, same-byte, row, same-propositions, same-first-states, same-first-oracle, same-enabled, same-move, same-letter, same-initial}
 use Rattle.semantics.proofs.Sound.{letter-lt, sound-initial}
 
 -- the same state, and the oracles of p in the same states
@@ -115,6 +114,13 @@ module _ (p p' : Plan) (m : OneMore p p') (z : planRefusal p ≡ 0) where
     pub bad-stays-bad : good p (after p c i) ≡ false → good p' (after p' c' i) ≡ false
     bad-stays-bad b = bool-cases (good p' (after p' c' i)) (λ g. absurd-bool (adding-never-good g) b) (λ g. g)
 
+  -- a move that is enabled and ends good with the added oracle is so without it; which of them may be committed depends on those above
+  pub safe-without : (c c' : Configuration) → SameShared p c c' → oraclesInRange p (c .oracles) ≡ true → (i : ℕ) → i < interactions p
+      → safe p' c' i ≡ true → safe p c i ≡ true
+  safe-without c c' s r i l h =
+      let e : enabled p (c .state) i ≡ true = sym (same-enabled p p' m z (c .state) i l) ∙ (rw (s .same-state) at (safe-enabled p' c' i h)) in
+      safe-from p c i e (adding-never-good c c' s r i l e (safe-good p' c' i h))
+
   -- ---- the starting state
 
   -- the two begin in the same state, and with the oracles of p in the same states
@@ -132,24 +138,3 @@ module _ (p p' : Plan) (m : OneMore p p') (z : planRefusal p ≡ 0) where
   -- a starting state that is good with the added oracle is good without it
   pub good-start : good p' (initial p') ≡ true → good p (initial p) ≡ true
   good-start = shared-good (initial p) (initial p') shared-initial start-range
-
-  -- ---- runs
-
-  -- a run with the added oracle is a run without it
-  pub run-without : (c c' : Configuration) → SameShared p c c' → oraclesInRange p (c .oracles) ≡ true → (is : List ℕ) → isRun p' c' is ≡ true
-      → isRun p c is ≡ true
-  unfolding isRun
-  run-without c c' s r [] h = refl
-  run-without c c' s r (i ∷ is) h =
-      let (known, (may, (rest, _))) = each _ h in
-      let low : ltb i (interactions p) ≡ true = rw (same-interactions p p' m) at known in
-      let l : i < interactions p = ltb-true _ _ low in
-      let free : eligible p (c .state) i ≡ true
-      = sym (same-eligible p p' m z (c .state) i l) ∙ (rw (s .same-state) at (commit-eligible p' c' i may)) in
-      let e : enabled p (c .state) i ≡ true = eligible-enabled p (c .state) i free in
-      let now : mayCommit p c i ≡ true = commit-from p c i free (adding-never-good c c' s r i l e (commit-good p' c' i may)) in
-      all-of _ (low, (now, (run-without (after p c i) (after p' c' i) (shared-after c c' s r i l e) (in-range-after c i r) is rest, tt)))
-
-  -- so from the starting state on
-  pub runs-without : (is : List ℕ) → isRun p' (initial p') is ≡ true → isRun p (initial p) is ≡ true
-  runs-without = run-without (initial p) (initial p') shared-initial start-range

@@ -5,7 +5,7 @@ use mathlib.Core.Bool.{true, false}
 use lib.Dec.{ltb, eqb}
 use Rattle.semantics.specs.Bytes.{some-below, mask, withBit}
 use Rattle.semantics.specs.Plan.{Plan, interactions}
-use Rattle.semantics.specs.Move.{Configuration, enabled, eligible, after, good, safeMove}
+use Rattle.semantics.specs.Move.{Configuration, enabled, after, good, safeMove}
 use Rattle.semantics.specs.Image.{Image, image, withMarks, marksOf, configurationOf}
 use Rattle.semantics.specs.Calls.{Answer, offers, committed, cancelled, stalled, penned, Outcome, outcome, offeredMask, tried, settled, Call, offered, try, settle, performed}
 use Rattle.semantics.proofs.Basics.{bool-cases, ltb-true, eqb-false, some-none}
@@ -19,7 +19,7 @@ pub data Performs (p : Plan) (b : Image) : Call → Outcome → Type 0 where
   settling : safeMove p (configurationOf b) < interactions p
       → Performs p b settle (outcome (committed (safeMove p (configurationOf b))) (image p (after p (configurationOf b) (safeMove p (configurationOf b))) 0))
   penning : ltb (safeMove p (configurationOf b)) (interactions p) ≡ false → some-below (interactions p) (enabled p (configurationOf b .state)) ≡ true
-      → Performs p b settle (outcome penned (withMarks b (mask (interactions p) (eligible p (configurationOf b .state)))))
+      → Performs p b settle (outcome penned (withMarks b (mask (interactions p) (enabled p (configurationOf b .state)))))
   stalling : ((i : ℕ) → i < interactions p → enabled p (configurationOf b .state) i ≡ false) → Performs p b settle (outcome stalled b)
 
 pub performs : (p : Plan) (b : Image) (k : Call) → Performs p b k (performed p b k)

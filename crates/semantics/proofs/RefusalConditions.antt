@@ -16,7 +16,8 @@ use Rattle.semantics.specs.Image.{Image, imageLength, image, marksOf, co
 use Rattle.semantics.specs.Calls.{Answer, accepted, refused, Outcome, outcome, unlessRefused, check, startRules, start, clerkRules, Call, offered, try, settle, callRules, performed, called}
 use Rattle.semantics.proofs.Basics.{absurd-bool, not-no, ltb-false, le-ltb, eqb-false, ne-eqb}
 use Rattle.semantics.proofs.Refusing.{numbered}
-use Rattle.semantics.proofs.RuleLists.{Kept, before, keeps, Exactly, numbers, among, distinct, broken-among, no-rule-0, refusal-exactly, exactly-append, among-append}
+use Rattle.semantics.proofs.Counting.{among}
+use Rattle.semantics.proofs.RuleLists.{Kept, before, keeps, Exactly, numbers, distinct, broken-among, no-rule-0, refusal-exactly, exactly-append, among-append}
 use Rattle.semantics.proofs.RefusedUnchanged.{Refused, accepted-not-refused, performed-not-refused}
 
 -- ---- the calls
@@ -249,7 +250,7 @@ pub refusal-13 : (p : Plan) (b : Image) (k : Call)
 unfolding keeps planRules imageRules lengthRule
 refusal-13 p b k = image-refuses p b k 13 refl
 
--- 14: "a mark at or above I, or on an interaction that is not enabled, is outranked, or would end in a good state".
+-- 14: "a mark at or above I, or on an interaction that is not enabled, is outranked, or would end in a good state" (`marks-kept`, `marks-ok`).
 pub refusal-14 : (p : Plan) (b : Image) (k : Call)
     → called p b k .answer ≡ refused 14 ↔ Kept (before 14 (planRules p ++ imageRules p b)) × (marksOk p (configurationOf b) (marksOf b) ≡ false)
 unfolding keeps planRules imageRules lengthRule
@@ -284,11 +285,11 @@ refusal-17 p b i = call-refuses p b (try i) 17
 broken-not : (b : Bool) → not b ≡ false ↔ b ≡ true
 broken-not b = (not-no b, ap not)
 
--- 18: "outranked".
+-- 18: "outranked", by an enabled, unmarked one (02, job 3).
 pub refusal-18 : (p : Plan) (b : Image) (i : ℕ)
-    → called p b (try i) .answer ≡ refused 18 ↔ Kept (before 18 (callRules p b (try i))) × (outranked p (configurationOf b .state) i ≡ true)
+    → called p b (try i) .answer ≡ refused 18 ↔ Kept (before 18 (callRules p b (try i))) × (outranked p (configurationOf b .state) (bit (marksOf b)) i ≡ true)
 unfolding keeps planRules imageRules lengthRule clerkRules callRules
-refusal-18 p b i = Iff·trans (call-refuses p b (try i) 18) (Iff·and Iff·rfl (broken-not (outranked p (configurationOf b .state) i)))
+refusal-18 p b i = Iff·trans (call-refuses p b (try i) 18) (Iff·and Iff·rfl (broken-not (outranked p (configurationOf b .state) (bit (marksOf b)) i)))
 
 -- 19: "marked".
 pub refusal-19 : (p : Plan) (b : Image) (i : ℕ)

@@ -7,6 +7,7 @@ use mathlib.Core.Bool.{Bool, true, false, not, cond, _&&_, _||_, true≢false, f
 use mathlib.Core.List.{List, [], _∷_, _++_}
 use lib.Dec.{eqb}
 use Rattle.semantics.specs.Refusal.{Rule, unless, refusal}
+use Rattle.semantics.proofs.Counting.{among}
 use Rattle.semantics.proofs.Basics.{bool-cases, absurd-bool, not-yes, and-both, or-cases, or-left, or-right, Each, eqb-true, eq-eqb, ne-eqb}
 use Rattle.semantics.proofs.Refusing.{numbered, tests, none-refused}
 
@@ -31,10 +32,6 @@ Exactly n rs = Kept (before n rs) × (keeps n rs ≡ false)
 abbrev pub numbers : List Rule → List ℕ
 numbers [] = []
 numbers (r ∷ rs) = r .number ∷ numbers rs
-
-abbrev pub among : ℕ → List ℕ → Bool
-among n [] = false
-among n (m ∷ ms) = eqb m n || among n ms
 
 -- No two rules of the list have one number.
 unfoldable pub distinct : List Rule → Bool

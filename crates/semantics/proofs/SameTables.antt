@@ -1,5 +1,5 @@
 -- A plan and the same plan with one oracle more: the counts and the tables that they share, and so the same moves (02, job 1).
-use mathlib.Core.Path.{_≡_, refl, sym, ap, ap₂, _∙_}
+use mathlib.Core.Path.{_≡_, refl, ap, ap₂, _∙_}
 use Prim.Native.Nat.{ℕ, zero, suc, _+_, _-_, _*_, _≤_, _<_}
 use native.Mathlib.Nat.{add-zero, add-assoc}
 use native.Mathlib.Omega.{arith}
@@ -7,19 +7,18 @@ use mathlib.Core.Bool.{Bool, true}
 use mathlib.Core.List.{List, [], _∷_}
 use lib.Dec.{ltb}
 use lib.IntN.{ℤ, pos}
-use Rattle.semantics.specs.Bytes.{byte, u16, u32, u64, allOf}
+use Rattle.semantics.specs.Bytes.{byte, u16, u32, allOf}
 use Rattle.semantics.specs.Signed.{signed}
 use Rattle.semantics.specs.Plan.{Plan, Span, spanAt, maxComponents, maxVariables, components, variables, transitions, interactions, propositions, codeWords, addedOracles, firstOracle, oracleStates}
-use Rattle.semantics.specs.Plan.{section, sectionSize, componentAt, variableAt, transitionAt, interactionAt, rankAt, propositionAt}
-use Rattle.semantics.specs.Plan.{guardOf, portIn, takesPart, below, word}
+use Rattle.semantics.specs.Plan.{section, sectionSize, componentAt, variableAt, transitionAt, interactionAt, propositionAt}
+use Rattle.semantics.specs.Plan.{guardOf, portIn, takesPart, word}
 use Rattle.semantics.specs.Code.{State, site, Machine, Role, decode, perform, ran, guardHolds, acted, spanOk}
 use Rattle.semantics.specs.Rules.{planRefusal}
-use Rattle.semantics.specs.Move.{ready, chosen, chosenIn, enabled, outranked, eligible, actedBelow, fired, letter, initialState}
-use Rattle.semantics.proofs.Basics.{bool-cases, same-test, each, leb-true, ltb-true, every-same, lowest-same, table-same, row-end}
+use Rattle.semantics.specs.Move.{ready, chosen, chosenIn, enabled, actedBelow, fired, letter, initialState}
+use Rattle.semantics.proofs.Basics.{bool-cases, each, leb-true, ltb-true, every-same, lowest-same, table-same, row-end}
 use Rattle.semantics.proofs.Masks.{mask-same}
 use Rattle.semantics.proofs.AcceptedPlan.{Accepted, accepted-plan, counts-of, guard-ok, action-ok, interaction-guard-ok, transfer-ok, proposition-ok}
 use Rattle.semantics.proofs.OneMove.{uses}
-use Rattle.semantics.proofs.Ranking.{outranked-exactly, eligible-enabled, eligible-top, eligible-from}
 use Rattle.semantics.proofs.Sound.{part}
 
 -- the plan p' is p with one oracle more: the same counts, one more oracle behind the others, and each section begins with p's bytes (only the
@@ -52,10 +51,6 @@ module _ {p p' : Plan} {a a' n : ℕ} (s : Alike p p' a a' n) where
   unfolding u32
   same-u32 h = cc (same-byte (omega arith), s .at 1 (omega arith), s .at 2 (omega arith), s .at 3 (omega arith))
 
-same-u64 : {p p' : Plan} {a a' n : ℕ} → Alike p p' a a' n → 8 ≤ n → u64 p' a' ≡ u64 p a
-unfolding u64
-same-u64 s h = cc (same-u32 s (omega arith), same-u32 (past s 4) (omega arith))
-
 same-span : {p p' : Plan} {a a' n : ℕ} → Alike p p' a a' n → 4 ≤ n → spanAt p' a' ≡ spanAt p a
 same-span s h = λ i. record { start = same-u16 s (omega arith) i; size = same-u16 (past s 2) (omega arith) i }
 
@@ -78,9 +73,6 @@ module _ (p p' : Plan) (m : OneMore p p') where
 
   pub same-transitions : transitions p' ≡ transitions p
   same-transitions = same-u16 (past header 4) (omega arith)
-
-  pub same-interactions : interactions p' ≡ interactions p
-  same-interactions = same-u16 (past header 6) (omega arith)
 
   pub same-propositions : propositions p' ≡ propositions p
   same-propositions = same-u16 (past header 8) (omega arith)
@@ -120,10 +112,6 @@ module _ (p p' : Plan) (m : OneMore p p') where
   interaction-row : (i : ℕ) → i < interactions p → Alike p p' (interactionAt p i) (interactionAt p' i) 24
   unfolding sectionSize
   interaction-row i h = row 3 24 (interactions p) i (omega arith) refl h
-
-  rank-row : (i : ℕ) → i < interactions p → Alike p p' (rankAt p i) (rankAt p' i) 8
-  unfolding sectionSize
-  rank-row i h = row 4 8 (interactions p) i (omega arith) refl h
 
   proposition-row : (k : ℕ) → k < propositions p → Alike p p' (propositionAt p k) (propositionAt p' k) 4
   unfolding sectionSize
@@ -211,31 +199,6 @@ module _ (p p' : Plan) (m : OneMore p p') where
         (every-same (components p) _ _
         (λ c h. let k : c < maxComponents = omega (arith, counts-of p (accepted .counts) .components≤) in
         rw (same-takes-part i c l k, same-chosen s i c l k))))
-
-    -- the same rank
-    same-below : (i j : ℕ) → i < interactions p → below p' i j ≡ below p i j
-    unfolding below
-    same-below i j l = rw (same-u64 (rank-row i l) (omega arith))
-
-    -- the same are outranked
-    pub same-outranked : (s : State) (i : ℕ) → i < interactions p → outranked p' s i ≡ outranked p s i
-    same-outranked s i l =
-        same-test _ _
-        (λ q.
-        let (j, h, above, on) = outranked-exactly p' s i .0 q in
-        let k : j < interactions p = omega (arith, same-interactions) in
-        outranked-exactly p s i .1 (j, k, sym (same-below i j l) ∙ above, sym (same-enabled s j k) ∙ on))
-        (λ q.
-        let (j, k, above, on) = outranked-exactly p s i .0 q in
-        outranked-exactly p' s i .1 (j, omega (arith, same-interactions), same-below i j l ∙ above, same-enabled s j k ∙ on))
-
-    -- and the same eligible
-    pub same-eligible : (s : State) (i : ℕ) → i < interactions p → eligible p' s i ≡ eligible p s i
-    same-eligible s i l =
-        let on = same-enabled s i l in
-        let over = same-outranked s i l in
-        same-test _ _ (λ q. eligible-from p s i (sym on ∙ eligible-enabled p' s i q) (sym over ∙ eligible-top p' s i q))
-        (λ q. eligible-from p' s i (on ∙ eligible-enabled p s i q) (over ∙ eligible-top p s i q))
 
     -- ---- the same state after a move
 

@@ -51,12 +51,12 @@ entry a k = record { answer = a; book = k }
 
 -- "Offered changes nothing."
 unfoldable pub bookOffered : Plan → Book → Entry
-bookOffered p k = entry (offers (mask (interactions p) (λ i. allOf (eligible p (lane p k .state) i ∷ not (k .crossed i) ∷ [])))) k
+bookOffered p k = entry (offers (mask (interactions p) (λ i. allOf (eligible p (lane p k .state) (k .crossed) i ∷ not (k .crossed i) ∷ [])))) k
 
 -- The first of 16, 17, 18 and 19 that applies to a try, 0 where none does: "crossed off stands for marked".
 unfoldable pub bookRefusal : Plan → Book → ℕ → ℕ
 bookRefusal p k i =
-    refusal (rule 16 (ltb i (interactions p)) ∷ rule 17 (enabled p (lane p k .state) i) ∷ rule 18 (not (outranked p (lane p k .state) i))
+    refusal (rule 16 (ltb i (interactions p)) ∷ rule 17 (enabled p (lane p k .state) i) ∷ rule 18 (not (outranked p (lane p k .state) (k .crossed) i))
     ∷ rule 19 (not (k .crossed i)) ∷ [])
 
 -- "A try to which 16, 17, 18 or 19 applies changes nothing. Else a good move is listed and the set emptied, and any other is crossed off."
@@ -67,13 +67,13 @@ unfoldable pub unlessWrong : ℕ → Book → Entry → Entry
 unlessWrong zero k e = e
 unlessWrong (suc n) k e = entry (refused (suc n)) k
 
--- "A settling that commits lists its move and empties the set. Stalled changes nothing. Penned crosses off every enabled,
--- unoutranked move."
+-- "A settling that commits lists its move and empties the set. Stalled changes nothing." Penned crosses off every enabled move; 02, job 3: it "leaves every enabled
+-- interaction marked".
 unfoldable pub bookSettled : Plan → Book → Entry
 bookSettled p k =
     let i = safeMove p (lane p k) in
     cond (ltb i (interactions p)) (entry (committed i) (listed k i))
-    (cond (some-below (interactions p) (enabled p (lane p k .state))) (entry penned (crossedOff k (eligible p (lane p k .state)))) (entry stalled k))
+    (cond (some-below (interactions p) (enabled p (lane p k .state))) (entry penned (crossedOff k (enabled p (lane p k .state)))) (entry stalled k))
 
 -- The book's answer to one call.
 unfoldable pub turn : Plan → Book → Call → Entry

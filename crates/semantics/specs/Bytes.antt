@@ -1,7 +1,7 @@
 -- Bytes and bounded tests: the vocabulary of all the definitions. A plan and an image are lists of bytes.
 use Prim.Native.Nat.{ℕ, zero, suc, _+_, _*_, _/_, _%_}
 use mathlib.Core.Bool.{Bool, true, false, cond, _&&_, _||_}
-use mathlib.Core.List.{List, [], _∷_}
+use mathlib.Core.List.{List, [], _∷_, _++_}
 use lib.ListN.{getD}
 use lib.Dec.{ltb, eqb}
 
@@ -48,6 +48,11 @@ some-below (suc n) f = some-below n f || f n
 unfoldable pub lowest : ℕ → (ℕ → Bool) → ℕ
 lowest zero f = zero
 lowest (suc n) f = let k = lowest n f in cond (ltb k n) k (cond (f n) n (suc n))
+
+-- The numbers below n at which f holds, the lowest first.
+unfoldable pub satisfying : ℕ → (ℕ → Bool) → List ℕ
+satisfying zero f = []
+satisfying (suc n) f = satisfying n f ++ cond (f n) (n ∷ []) []
 
 -- The list f 0, f 1, .. of n entries.
 unfoldable pub table : {A : Type 0} → ℕ → (ℕ → A) → List A

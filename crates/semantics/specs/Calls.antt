@@ -1,6 +1,6 @@
 -- The answers and the calls, from the plan's bytes and the image's to the answer and the image's bytes afterwards. Each call reads its image.
 use Prim.Native.Nat.{ℕ, zero, suc, _+_, _*_}
-use mathlib.Core.Bool.{Bool, not, cond}
+use mathlib.Core.Bool.{not, cond}
 use mathlib.Core.List.{List, [], _∷_, _++_}
 use lib.Dec.{ltb}
 use Rattle.semantics.specs.Bytes.{allOf, some-below, bit, mask, withBit}
@@ -71,12 +71,12 @@ start p b = unlessRefused (refusal (startRules p b)) b (outcome accepted (image 
 -- "16: the number is I or more. 17: not enabled. 18: outranked. 19: marked."
 unfoldable pub clerkRules : Plan → Image → ℕ → List Rule
 clerkRules p b i =
-    rule 16 (ltb i (interactions p)) ∷ rule 17 (enabled p (configurationOf b .state) i) ∷ rule 18 (not (outranked p (configurationOf b .state) i))
+    rule 16 (ltb i (interactions p)) ∷ rule 17 (enabled p (configurationOf b .state) i) ∷ rule 18 (not (outranked p (configurationOf b .state) (bit (marksOf b)) i))
     ∷ rule 19 (not (bit (marksOf b) i)) ∷ []
 
 -- "Offered means enabled, unoutranked, unmarked. The offered answer is a 64-bit number with bit i for interaction i."
 unfoldable pub offeredMask : Plan → Image → ℕ
-offeredMask p b = mask (interactions p) (λ i. allOf (eligible p (configurationOf b .state) i ∷ not (bit (marksOf b) i) ∷ []))
+offeredMask p b = mask (interactions p) (λ i. allOf (eligible p (configurationOf b .state) (bit (marksOf b)) i ∷ not (bit (marksOf b) i) ∷ []))
 
 -- "A good move is committed: new state, new oracle state, marks cleared. A bad one is cancelled: its mark is set and no other byte differs."
 unfoldable pub tried : Plan → Image → ℕ → Outcome
@@ -84,14 +84,14 @@ tried p b i =
     cond (good p (after p (configurationOf b) i)) (outcome (committed i) (image p (after p (configurationOf b) i) 0))
     (outcome (cancelled i) (withMarks b (withBit (marksOf b) i)))
 
--- Settling commits the safe move. "With none, it answers stalled when nothing is enabled (no byte changes) and penned otherwise, with every enabled, unoutranked
--- interaction marked."
+-- Settling commits the safe move. "With none, it answers stalled when nothing is enabled (no byte changes) and penned otherwise"; 02, job 3: "and leaves every
+-- enabled interaction marked".
 unfoldable pub settled : Plan → Image → Outcome
 settled p b =
     let i = safeMove p (configurationOf b) in
     cond (ltb i (interactions p)) (outcome (committed i) (image p (after p (configurationOf b) i) 0))
     (cond (some-below (interactions p) (enabled p (configurationOf b .state)))
-    (outcome penned (withMarks b (mask (interactions p) (eligible p (configurationOf b .state))))) (outcome stalled b))
+    (outcome penned (withMarks b (mask (interactions p) (enabled p (configurationOf b .state))))) (outcome stalled b))
 
 -- The calls on a started image.
 pub data Call : Type 0 where

@@ -1,4 +1,4 @@
--- The fourteen proved cases of 01 "The sample lane", as one table: what the definitions give, and what 01 says, case 13 as 02, job 2, has it.
+-- The fourteen proved cases of 01 "The sample lane", as one table: what the definitions give, and what 01 says, cases 9 and 13 as 02, jobs 3 and 2, have them.
 use Prim.Native.Nat.{ℕ}
 use mathlib.Core.Bool.{Bool, true, false, _&&_}
 use mathlib.Core.List.{List, [], _∷_, _++_, map}
@@ -85,9 +85,9 @@ cases =
     -- 8. Settling after case 3 gives case 7's image.
     ∷ case (answered (called sample (first sample (try 0) .image) settle) ++ called sample (first sample (try 0) .image) settle .image)
     (1 ∷ 1 ∷ first sample settle .image)
-    -- 9. With interaction 1 below 0: offered 1, trying 1 gives 18, settling answers penned, marks 1.
+    -- 9. With interaction 1 below 0: offered 1, trying 1 gives 18, settling commits 1 (02, job 3) and gives case 7's image.
     ∷ case (first ranked offered .answer .bits ∷ answered (first ranked (try 1)) ++ answered (first ranked settle) ++ first ranked settle .image)
-    (1 ∷ 5 ∷ 18 ∷ 4 ∷ 0 ∷ marked startImage 1)
+    (1 ∷ 5 ∷ 18 ∷ 1 ∷ 1 ∷ taredImage)
     -- 10. With starting location 2: 15.
     ∷ case (answered (begun weighedAtStart) ++ begun weighedAtStart .image) (5 ∷ 15 ∷ memory)
     -- 11. With T 0, no transition records, and offsets and length to match: settling answers stalled.

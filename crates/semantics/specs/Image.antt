@@ -1,5 +1,5 @@
 -- The image, 01 "The image, 312 bytes": written, read back, and the keeper's refusals 11 to 14.
-use Prim.Native.Nat.{ℕ, suc, _+_, _*_}
+use Prim.Native.Nat.{ℕ, _+_, _*_}
 use mathlib.Core.Bool.{Bool, not, cond, _||_}
 use mathlib.Core.List.{List, [], _∷_, _++_}
 use lib.ListN.{length, getD, take, drop}
@@ -10,7 +10,7 @@ use Rattle.semantics.specs.Signed.{signed, residue, equalZ}
 use Rattle.semantics.specs.Plan.{Plan, maxComponents, maxVariables, maxInteractions, maxOracles, noPort, numberByte, components, variables, interactions, locations, ports}
 use Rattle.semantics.specs.Code.{State}
 use Rattle.semantics.specs.Refusal.{Rule, rule}
-use Rattle.semantics.specs.Move.{Configuration, eligible, oraclesInRange, good, mayCommit}
+use Rattle.semantics.specs.Move.{Configuration, eligible, after, oraclesInRange, good}
 
 abbrev pub Image : Type 0
 Image = List ℕ
@@ -95,12 +95,13 @@ configurationOk p c =
     allOf (oraclesInRange p (c .oracles) ∷ good p c ∷ every maxComponents (locationOk p (c .state)) ∷ every maxComponents (lastPortOk p (c .state))
     ∷ every maxVariables (valueOk p (c .state)) ∷ [])
 
--- 14: "a mark at or above I, or on an interaction that is not enabled, is outranked, or would end in a good state".
-unfoldable pub markOk : Plan → Configuration → ℕ → Bool
-markOk p c i = allOf (ltb i (interactions p) ∷ eligible p (c .state) i ∷ not (mayCommit p c i) ∷ [])
+-- 14: "a mark at or above I, or on an interaction that is not enabled, is outranked, or would end in a good state". 02, job 3: "each enabled one above it is
+-- marked too", which is that it is not outranked.
+unfoldable pub markOk : Plan → Configuration → (ℕ → Bool) → ℕ → Bool
+markOk p c marked i = allOf (ltb i (interactions p) ∷ eligible p (c .state) marked i ∷ not (good p (after p c i)) ∷ [])
 
 unfoldable pub marksOk : Plan → Configuration → ℕ → Bool
-marksOk p c m = every maxInteractions (λ i. implies (bit m i) (markOk p c i))
+marksOk p c m = every maxInteractions (λ i. implies (bit m i) (markOk p c (bit m) i))
 
 -- 11: "the image slice is not 312 bytes".
 unfoldable pub lengthRule : Image → Rule

@@ -1,6 +1,6 @@
 -- One move, 01 "One move": enabled, outranked, the state after a move, its event and the oracles' verdict.
-use Prim.Native.Nat.{ℕ, zero, suc, min, _+_}
-use mathlib.Core.Bool.{Bool, true, false, not, cond, _&&_}
+use Prim.Native.Nat.{ℕ, zero, suc, min}
+use mathlib.Core.Bool.{Bool, not, cond, _&&_}
 use mathlib.Core.List.{List, [], _∷_}
 use lib.ListN.{getD}
 use lib.Dec.{ltb, eqb}
@@ -35,13 +35,13 @@ unfoldable pub enabled : Plan → State → ℕ → Bool
 enabled p s i =
     allOf (guardHolds p s (interactionGuard p i) ∷ every (components p) (λ c. implies (takesPart p i c) (ltb (chosenIn p s i c) (transitions p))) ∷ [])
 
--- "It is outranked when an enabled interaction lies above it, marked or not."
-unfoldable pub outranked : Plan → State → ℕ → Bool
-outranked p s i = some-below (interactions p) (λ j. below p i j && enabled p s j)
+-- 02, job 3: "Outranked now means that an enabled, unmarked interaction lies above." The marks are a set of interactions.
+unfoldable pub outranked : Plan → State → (ℕ → Bool) → ℕ → Bool
+outranked p s marked i = some-below (interactions p) (λ j. allOf (below p i j ∷ enabled p s j ∷ not (marked j) ∷ []))
 
--- Enabled and not outranked: what the priority rule of BIP lets pass.
-unfoldable pub eligible : Plan → State → ℕ → Bool
-eligible p s i = allOf (enabled p s i ∷ not (outranked p s i) ∷ [])
+-- Enabled and not outranked: an unmarked one is what the priority rule of BIP lets pass where the marked are disabled (002, remark 7).
+unfoldable pub eligible : Plan → State → (ℕ → Bool) → ℕ → Bool
+eligible p s marked i = allOf (enabled p s i ∷ not (outranked p s marked i) ∷ [])
 
 -- "All guards read the old state. Then come the transfer, each action word by word": the transfer, then the actions of the
 -- components below n that take part. The transitions are those that the state s, before the move, chose.
@@ -95,11 +95,19 @@ oraclesGood p qs = not (eqb (lowestVerdict p qs (addedOracles p)) 0)
 unfoldable pub good : Plan → Configuration → Bool
 good p c = oraclesGood p (c .oracles)
 
--- The move may be committed: it is enabled, not outranked and ends good.
-unfoldable pub mayCommit : Plan → Configuration → ℕ → Bool
-mayCommit p c i = allOf (eligible p (c .state) i ∷ good p (after p c i) ∷ [])
+-- The move is enabled and ends good: what the monitor of 002 lets be done.
+unfoldable pub safe : Plan → Configuration → ℕ → Bool
+safe p c i = allOf (enabled p (c .state) i ∷ good p (after p c i) ∷ [])
 
--- "Settling commits the lowest-numbered enabled, unoutranked move that ends in a good state": that move, or I where there is none.
+-- 02, job 3: ".. this ranking, where an enabled good move above is what outranks".
+unfoldable pub dominated : Plan → Configuration → ℕ → Bool
+dominated p c i = some-below (interactions p) (λ j. below p i j && safe p c j)
+
+-- The move may be committed: it "is enabled, good, and has no enabled good move above it". BIP's priority rule over the monitor's commits.
+unfoldable pub mayCommit : Plan → Configuration → ℕ → Bool
+mayCommit p c i = allOf (safe p c i ∷ not (dominated p c i) ∷ [])
+
+-- "Settling commits the lowest-numbered" such move: that move, or I where there is none.
 unfoldable pub safeMove : Plan → Configuration → ℕ
 safeMove p c = lowest (interactions p) (mayCommit p c)
 

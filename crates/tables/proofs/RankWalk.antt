@@ -1,26 +1,18 @@
 -- The walk over a row that skips what stands above a number tried, and what it shows of all the rows together.
 use mathlib.Core.Path.{_≡_, refl, sym, ap, ap₂, _∙_, subst}
-use Prim.Native.Nat.{ℕ, zero, suc, _-_, _^_, _≤_, _<_}
+use Prim.Native.Nat.{ℕ, zero, suc, _≤_, _<_}
 use native.Mathlib.Nat.{le-refl, le-trans, lt-of-le-of-lt, not-suc-le-zero}
 use native.Mathlib.Omega.{arith}
 use mathlib.Core.Bool.{Bool, true, false, not, _&&_, _||_}
-use lib.Dec.{ltb, eqb}
+use lib.Dec.{eqb}
 use lib.Bits.{bitAnd, and-le-l, and-le-r}
 use Rattle.semantics.specs.Bytes.{implies, every, bit, mask}
 use Rattle.semantics.specs.Plan.{Plan, maxInteractions, interactions, rankRow}
-use Rattle.semantics.proofs.Basics.{bool-cases, absurd-bool, and-both, implies-yes, implies-at, all-of, every-at, every-all, ltb-true, ltb-false, eqb-true}
+use Rattle.semantics.proofs.Basics.{bool-cases, absurd-bool, and-both, implies-yes, implies-at, all-of, every-at, every-all, eqb-true}
 use Rattle.semantics.proofs.Masks.{bit-zero, bit-mask, mask-lt}
-use Rattle.words.proofs.BitLaws.{bit-and, bit-not, bits-same, bit-above}
+use Rattle.words.proofs.BitLaws.{bit-and, bits-same}
 use Rattle.tables.specs.RankRow.{covers, closed, rowOk, Reached, Told, RowPassed}
 use Rattle.tables.proofs.RankRows.{bounded-at}
-
--- a & !b
-pub bit-without : (a b k : ℕ) → a < 2 ^ 64 → b < 2 ^ 64 → bit (bitAnd a (2 ^ 64 - 1 - b)) k ≡ (bit a k && not (bit b k))
-bit-without a b k h l =
-    bit-and a (2 ^ 64 - 1 - b) k
-    ∙ bool-cases (ltb k 64) (λ t. ap (λ (x : Bool). bit a k && x) (bit-not 64 b k l (ltb-true k 64 t)))
-    (λ f. let z : bit a k ≡ false = bit-above 64 a k h (ltb-false k 64 f) in
-    ap (λ (x : Bool). x && bit (2 ^ 64 - 1 - b) k) z ∙ sym (ap (λ (x : Bool). x && not (bit b k)) z))
 
 -- ---- one row
 

@@ -3,21 +3,14 @@ use layout::header::interactions;
 use layout::records::rank_row;
 use words::bits;
 ghost use mathlib.Core.Path.{_≡_};
-ghost use mathlib.Core.Bool.{true, not, _&&_};
-ghost use Prim.Native.Nat.{ℕ, _≤_, _<_};
+ghost use mathlib.Core.Bool.{true};
+ghost use Prim.Native.Nat.{ℕ, _<_};
 ghost use lib.Dec.{ltb};
 ghost use Rattle.semantics.specs.Bytes.{bit, every};
 ghost use Rattle.semantics.specs.Plan.{interactions};
 ghost use Rattle.semantics.specs.Rules.{rankOk};
 ghost use Rattle.layout.specs.Laid.{Laid};
 ghost use Rattle.tables.specs.RankRow.{bounded, closed, rowOk, Told, RowPassed};
-
-// The numbers of a that are not in b.
-fn without(a: u64, b: u64) -> u64
-    ensures { λ r. ⌜ ((k : ℕ) → bit r k ≡ (bit a k && not (bit b k))) × (r ≤ a) ⌝ }
-{
-    a & !b
-}
 
 // Whether the row has what stands above each of its numbers. What stands above a number that was tried is not tried itself: where the rows
 // of both keep the rule, it has nothing above it that the first has not.
@@ -31,7 +24,7 @@ fn is_closed(plan: &[u8], row: u64) -> bool
         if !bits::inside(above, row) {
             return false;
         }
-        left = without(bits::without_lowest(left), above);
+        left = bits::without(bits::without_lowest(left), above);
     }
     true
 }

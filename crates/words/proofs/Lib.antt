@@ -3,4 +3,5 @@ pub mod Loops
 pub mod MaskWalk
 pub mod MatchRest
 pub mod SpliceLaws
+pub mod SubsetLaws
 pub mod TestLaws

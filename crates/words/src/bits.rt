@@ -37,6 +37,13 @@ pub fn without_lowest(m: u64) -> u64
     m & (m - 1)
 }
 
+// The numbers of a that are not in b.
+pub fn without(a: u64, b: u64) -> u64
+    ensures { λ r. ⌜ ((j : ℕ) → bit r j ≡ (bit a j && not (bit b j))) × (r ≤ a) ⌝ }
+{
+    a & !b
+}
+
 // Whether some number is in both.
 pub fn meets(a: u64, b: u64) -> bool
     ensures { λ r. ⌜ r ≡ some-below 64 (λ j. bit a j && bit b j) ⌝ }

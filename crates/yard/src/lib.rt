@@ -30,9 +30,7 @@ pub extern "C" fn yard_start(plan: &[u8], image: &mut [u8]) -> u32
 pub extern "C" fn yard_offered(plan: &[u8], image: &[u8]) -> u32
     ensures { λ r. ⌜ r ≡ packed (called (now (plan .entry)) (now (image .entry)) offered .answer) ⌝ }
 {
-    let offer = calls::offered(plan, image);
-    let said = offer.answer;
-    answer::packed(said)
+    answer::packed(calls::offerable(plan, image))
 }
 
 // The moves on offer, bit i for interaction i; 0 where the call is refused.

@@ -2,43 +2,16 @@
 use crate::Buffer;
 use crate::Call;
 use crate::Image;
-use crate::LONGER;
 use crate::afresh;
+use crate::bits;
 use crate::lay;
 use crate::line;
-use crate::number;
 use crate::poke;
 use crate::put;
 use crate::put_words;
 use crate::sized;
+use crate::sized_bits;
 use crate::spoilt;
-
-// The offered bits of the first size bytes of the image.
-fn partly_bits(plan: &[u8], image: &[u8], size: usize) -> u64 {
-    if size > image.len() {
-        return LONGER as u64;
-    }
-    yard::yard_offered_bits(plan, &image[..size])
-}
-
-// The same with the plan in the first len bytes of buf.
-fn called_bits(buf: &[u8], len: usize, image: &Image, size: usize) -> u64 {
-    if len > buf.len() {
-        return LONGER as u64;
-    }
-    partly_bits(&buf[..len], image, size)
-}
-
-// The line of the offered bits, with the plan in the first len bytes of buf and the first size bytes
-// of the image.
-fn sized_bits(label: &[u8], buf: &Buffer, len: usize, image: &Image, size: usize) {
-    number(label, called_bits(buf, len, image, size));
-}
-
-// The line of the offered bits of the image as it is.
-fn bits(label: &[u8], buf: &Buffer, len: usize, image: &Image) {
-    sized_bits(label, buf, len, image, 312);
-}
 
 // The sample lane, but its transitions are t as lay makes them. Gives its length.
 fn lane(buf: &mut Buffer, t: u16) -> usize {
@@ -241,13 +214,18 @@ fn all_marks(buf: &mut Buffer, image: &mut Image) {
     );
 }
 
-// A safe move below a bad one, refusal 18, and the image then under the plan without the rank.
+// A safe move below a bad one: refusal 18 until the bad one is marked. Then the image with the mark
+// under the plan without the rank.
 fn ranks(buf: &mut Buffer, image: &mut Image) {
     let len = ranked(buf);
     afresh(b"ranked, try 1", Call::Try(1), buf, len, image);
+    bits(b"ranked, offered bits", buf, len, image);
     line(b"ranked, settle", Call::Settle, buf, len, image);
+    afresh(b"ranked, try 0", Call::Try(0), buf, len, image);
+    bits(b"ranked, offered bits then", buf, len, image);
     line(b"ranked, try 0 then", Call::Try(0), buf, len, image);
     line(b"ranked, try 1 then", Call::Try(1), buf, len, image);
+    afresh(b"ranked, try 0 again", Call::Try(0), buf, len, image);
     let len = sample(buf);
     line(
         b"the same image without the rank, settle",

@@ -1,10 +1,11 @@
-// Runs the plan check, the calls on an image, both with added oracles, and sums, at their limits: for
-// each case a line with the case and the answer. What the modules of the cases share stands here,
-// private to them: lawful plans laid into a buffer, and the lines of the calls.
+// Runs the plan check, the calls on an image, both with added oracles, sums, and ranks with marks, at
+// their limits: for each case a line with the case and the answer. What the modules of the cases share
+// stands here, private to them: lawful plans laid into a buffer, and the lines of the calls.
 mod calls;
 mod checks;
 mod oracle_calls;
 mod oracle_checks;
+mod rank_calls;
 mod sums;
 
 ghost use Prim.Native.Nat.{_≤_};
@@ -226,6 +227,33 @@ fn line(label: &[u8], call: Call, buf: &Buffer, len: usize, image: &mut Image) {
     sized(label, call, buf, len, image, 312);
 }
 
+// The offered bits of the first size bytes of the image.
+fn partly_bits(plan: &[u8], image: &[u8], size: usize) -> u64 {
+    if size > image.len() {
+        return LONGER as u64;
+    }
+    yard::yard_offered_bits(plan, &image[..size])
+}
+
+// The same with the plan in the first len bytes of buf.
+fn called_bits(buf: &[u8], len: usize, image: &Image, size: usize) -> u64 {
+    if len > buf.len() {
+        return LONGER as u64;
+    }
+    partly_bits(&buf[..len], image, size)
+}
+
+// The line of the offered bits, with the plan in the first len bytes of buf and the first size bytes
+// of the image.
+fn sized_bits(label: &[u8], buf: &Buffer, len: usize, image: &Image, size: usize) {
+    number(label, called_bits(buf, len, image, size));
+}
+
+// The line of the offered bits of the image as it is.
+fn bits(label: &[u8], buf: &Buffer, len: usize, image: &Image) {
+    sized_bits(label, buf, len, image, 312);
+}
+
 // Starts the image, with no line.
 fn start(buf: &Buffer, len: usize, image: &mut Image) {
     called(Call::Start, buf, len, image, 312);
@@ -253,4 +281,5 @@ fn main() {
     oracle_checks::run();
     oracle_calls::run();
     sums::run();
+    rank_calls::run();
 }

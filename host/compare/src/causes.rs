@@ -3,7 +3,7 @@
 use reference::answer::{Answer, Refusal};
 use reference::calls;
 use reference::image;
-use reference::lane::{outranked, Lane};
+use reference::lane::Lane;
 use reference::plan::Plan;
 
 #[derive(Clone, Copy, Debug, PartialEq, Eq)]
@@ -112,9 +112,8 @@ fn cancelled(plan: &Plan, image: &[u8], interaction: usize) -> Option<Cause> {
 
 fn penned(plan: &Plan, image: &[u8]) -> Option<Cause> {
     let lane = lane(plan, image);
-    let enabled = lane.enabled(plan);
-    let eligible = (0..enabled.len()).filter(|&i| !outranked(plan, &enabled, i));
-    let mut ends = eligible.filter_map(|i| lane.after(plan, i));
+    let enabled = lane.enabled(plan).into_iter();
+    let mut ends = enabled.filter_map(|i| lane.after(plan, i));
     ends.all(|end| first_good(plan, &end))
         .then_some(Cause::Penned)
 }

@@ -2,13 +2,14 @@
 
 use reference::answer::Answer;
 use reference::calls;
-use reference::sums::{self, Past};
+use reference::sums;
 
 use crate::causes::cause;
 use crate::difference::Difference;
 use crate::engines::{Call, Engine, Reply, BASELINE, LIBRARY};
 use crate::fault::{self, Case};
 use crate::lent::{End, Lent, LentPlan, ENDS};
+use crate::ranking::Ranked;
 use crate::tally::Tally;
 
 /// The longest image, lawful or not, has fewer bytes.
@@ -41,7 +42,7 @@ pub struct LeftOut {
 pub struct Comparer {
     seed: u64,
     library: Engine,
-    /// A build of the library whose sums may wrap.
+    /// A build of the library whose ranks may mean something else.
     older: Option<Engine>,
     pub left_out: LeftOut,
     lent: Lent,
@@ -63,7 +64,8 @@ impl Comparer {
         }
     }
 
-    /// With an older build, whose sums may wrap: it is left out of the calls in which the reference sees a result past an end.
+    /// With an older build, by which marked interactions may hold others down: it is left out of the calls on a lane in which the reference sees an
+    /// enabled interaction above another. In all others no move is outranked.
     pub fn and_older(mut self, engine: Engine) -> Comparer {
         self.older = Some(engine);
         self
@@ -81,7 +83,7 @@ impl Comparer {
         let LeftOut { calls, different } = self.left_out;
         let name = self.older?.name;
         Some(format!(
-            "{name}: left out of {calls} calls with a result past an end; in {different} of them it differs"
+            "{name}: left out of {calls} calls with an enabled interaction above another; in {different} of them it differs"
         ))
     }
 
@@ -99,6 +101,11 @@ impl Comparer {
         if let Some(cause) = cause(plan.bytes(), image, outcome.answer) {
             tally.cause(cause);
         }
+        let ranked = Ranked::read(call, plan.bytes(), image);
+        let facts = ranked
+            .iter()
+            .flat_map(|ranked| ranked.facts(call, outcome.answer, outcome.bits));
+        facts.for_each(|fact| tally.fact(fact));
         let question = Question {
             call,
             number: tally.calls,
@@ -110,23 +117,23 @@ impl Comparer {
         }
         let in_turn = ENDS[tally.calls as usize % 2];
         self.hold(BASELINE, in_turn, &question, &outcome)?;
-        self.hold_older(in_turn, &question, &outcome, past)?;
+        self.hold_older(in_turn, &question, &outcome, ranked.is_some())?;
         Ok(outcome)
     }
 
-    /// Holds the older build, where there is one; where a result went past an end, what it says is only counted.
+    /// Holds the older build, where there is one; where ranks play a part, what it says is only counted.
     fn hold_older(
         &mut self,
         end: End,
         question: &Question,
         outcome: &Outcome,
-        past: Past,
+        is_ranked: bool,
     ) -> Checked<()> {
         let Some(older) = self.older else {
             return Ok(());
         };
         let held = self.hold(older, end, question, outcome);
-        if past == Past::default() {
+        if !is_ranked {
             return held;
         }
         self.left_out.calls += 1;

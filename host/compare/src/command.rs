@@ -39,10 +39,7 @@ impl Run {
         fault::watch();
         println!("{}: seed {}\n", comparer.names(), self.seed);
         let mut session = Session::new(self.seed, self.plans, comparer);
-        let mut difference = None;
-        while difference.is_none() && session.tally.calls < self.calls {
-            difference = session.round().err();
-        }
+        let difference = session.compare(self.calls).err();
         print!("{}", session.tally);
         if let Some(told) = session.comparer.told_of_older() {
             println!("{told}");

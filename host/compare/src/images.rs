@@ -1,6 +1,9 @@
 //! Images damaged on purpose or at random, and lawful images that no call wrote.
 
 use reference::draft::Draft;
+use reference::image::{self, Stored};
+use reference::lane::{outranked, Lane, Moves};
+use reference::plan::Plan;
 
 use crate::generate;
 use crate::rng::Rng;
@@ -101,4 +104,39 @@ pub fn redressed(rng: &mut Rng, image: &[u8], draft: &Draft) -> Vec<u8> {
         toggle_mark(rng, &mut bytes, draft.interactions.len());
     }
     bytes
+}
+
+/// The image with other marks, where its state is lawful: all of them true, or one of these taken away.
+pub fn marked(rng: &mut Rng, image: &[u8], draft: &Draft) -> Vec<u8> {
+    let mut bytes = image.to_vec();
+    let plan = Plan::read(&draft.bytes()).expect("a generated plan is lawful");
+    let Ok(Stored { lane, .. }) = image::read_unjudged(&plan, image) else {
+        return bytes;
+    };
+    let mut marked = true_marks(rng, &plan, &lane);
+    if !marked.is_empty() && rng.chance(35) {
+        let marks = Vec::from_iter(marked.iter().copied());
+        marked.remove(&rng.pick(&marks));
+    }
+    bytes[16..24].copy_from_slice(&image::bits(&marked).to_le_bytes());
+    bytes
+}
+
+/// Moves that end bad, each with all enabled ones above it.
+fn true_marks(rng: &mut Rng, plan: &Plan, lane: &Lane) -> Moves {
+    let enabled = lane.enabled(plan);
+    let mut bad = enabled.clone();
+    bad.retain(|&i| !lane.ends_good(plan, i));
+    let mut marked = Moves::new();
+    let enough = rng.pick(&[0, 15, 40]);
+    loop {
+        let next = bad
+            .difference(&marked)
+            .filter(|&&i| !outranked(plan, &enabled, &marked, i));
+        let next = Vec::from_iter(next.copied());
+        if next.is_empty() || rng.chance(enough) {
+            return marked;
+        }
+        marked.insert(rng.pick(&next));
+    }
 }

@@ -16,6 +16,9 @@ pub mod oracle;
 pub mod pages;
 #[cfg(test)]
 mod planted;
+pub mod ranking;
+#[cfg(test)]
+mod ranks_first;
 pub mod rng;
 pub mod sequences;
 pub mod spoil;

@@ -54,9 +54,7 @@ fn with_the_chosen_fault() {
         .find(|engine| engine.name == chosen);
     fault::watch();
     let mut session = Session::new(1, Plans::All, Comparer::with(1, engine.unwrap()));
-    while session.tally.calls < 10_000 {
-        assert!(session.round().is_ok());
-    }
+    assert!(session.compare(10_000).is_ok());
 }
 
 #[test]

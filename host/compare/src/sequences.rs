@@ -12,6 +12,7 @@ use crate::checked::{self, Checked, Comparer, Outcome};
 use crate::difference::Difference;
 use crate::engines::{Call, Reply};
 use crate::lent::{LentPlan, Shelf};
+use crate::ranking::Fact;
 use crate::rng::Rng;
 use crate::tally::Tally;
 use crate::{damage, generate, images};
@@ -27,6 +28,8 @@ pub enum Plans {
 /// The bytes of a plan, and of an image, that are zero without added oracles.
 const OF_PLAN: Range<usize> = 42..46;
 const OF_IMAGE: Range<usize> = 9..12;
+/// The marks of an image.
+const MARKS: Range<usize> = 16..24;
 
 pub struct Session {
     rng: Rng,
@@ -50,8 +53,16 @@ impl Session {
         }
     }
 
+    /// Rounds until so many calls are compared; ends early with the first difference.
+    pub fn compare(&mut self, calls: u64) -> Checked<()> {
+        while self.tally.calls < calls {
+            self.round()?;
+        }
+        Ok(())
+    }
+
     /// One lawful plan: a sequence of calls with others between, then calls on damaged plans.
-    pub fn round(&mut self) -> Checked<()> {
+    fn round(&mut self) -> Checked<()> {
         let made = match self.which {
             Plans::All => generate::plan(&mut self.rng),
             Plans::Old => generate::with_added(&mut self.rng, 0),
@@ -108,7 +119,39 @@ impl Session {
 
     fn call(&mut self, plan: &LentPlan, image: &[u8], call: Call) -> Checked<Outcome> {
         let image = self.restricted(image.to_vec(), OF_IMAGE);
-        self.comparer.compare(&mut self.tally, plan, &image, call)
+        let outcome = self.comparer.compare(&mut self.tally, plan, &image, call)?;
+        if call == Call::Settle && outcome.answer.kind() != yard::REFUSED {
+            self.settle_unmarked(plan, &image, &outcome)?;
+        }
+        Ok(outcome)
+    }
+
+    /// Settles without the marks, as before the tries that were cancelled: answer and image must be the same.
+    fn settle_unmarked(&mut self, plan: &LentPlan, image: &[u8], outcome: &Outcome) -> Checked<()> {
+        let mut unmarked = image.to_vec();
+        unmarked[MARKS].fill(0);
+        if unmarked == image {
+            return Ok(());
+        }
+        let call = Call::Settle;
+        let other = self
+            .comparer
+            .compare(&mut self.tally, plan, &unmarked, call)?;
+        self.tally.fact(Fact::WithoutMarks);
+        let first_byte = checked::first_difference(&outcome.image, &other.image);
+        if outcome.answer == other.answer && first_byte.is_none() {
+            return Ok(());
+        }
+        Err(Box::new(Difference {
+            what: "settling without the marks",
+            call,
+            call_number: self.tally.calls,
+            said: ("all with the marks", Reply::of(call, outcome.answer, 0)),
+            expected: ("all without them", Reply::of(call, other.answer, 0)),
+            first_byte,
+            plan: plan.bytes().to_vec(),
+            image: image.to_vec(),
+        }))
     }
 
     /// The bytes, with zeros in the places that only added oracles use where there are to be none.
@@ -133,8 +176,22 @@ impl Session {
                 self.any_call(draft, plan, &outcome.image)?;
             }
             5 => self.damaged_plan(draft, image)?,
+            6 | 7 => self.marked_image(draft, plan, image)?,
             _ => {}
         }
+        Ok(())
+    }
+
+    /// What is on offer in the image, or in one of another state, with other marks, and a call on it that often tries one of these.
+    fn marked_image(&mut self, draft: &Draft, plan: &LentPlan, image: &[u8]) -> Checked<()> {
+        let state = match self.rng.chance(50) {
+            true => images::redressed(&mut self.rng, image, draft),
+            false => image.to_vec(),
+        };
+        let marked = images::marked(&mut self.rng, &state, draft);
+        let offer = self.call(plan, &marked, Call::Bits)?.bits;
+        let call = self.next_call(draft.interactions.len(), offer);
+        self.call(plan, &marked, call)?;
         Ok(())
     }
 
@@ -221,11 +278,9 @@ mod tests {
     /// The tally of a comparison of the C baseline, which stands in the library's place too.
     fn compared(which: Plans) -> Tally {
         let mut session = Session::new(2, which, Comparer::with(2, BASELINE));
-        while session.tally.calls < 60_000 {
-            if let Err(difference) = session.round() {
-                difference.report(2);
-                panic!("a difference");
-            }
+        if let Err(difference) = session.compare(60_000) {
+            difference.report(2);
+            panic!("a difference");
         }
         session.tally
     }

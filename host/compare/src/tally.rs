@@ -9,6 +9,7 @@ use reference::sums::Past;
 use crate::causes::{Cause, CAUSES};
 use crate::engines::Call;
 use crate::generate::Generated;
+use crate::ranking::{Fact, FACTS};
 use crate::sequences::Plans;
 
 const CALLS: [&str; 6] = ["check", "start", "offered", "bits", "try", "settle"];
@@ -42,6 +43,7 @@ pub struct Tally {
     answers: [[u64; 6]; 6],
     refusals: [u64; 21],
     causes: [u64; CAUSES.len()],
+    facts: [u64; FACTS.len()],
     past: Past,
     plans: u64,
     largest: [usize; 11],
@@ -60,6 +62,10 @@ impl Tally {
 
     pub fn cause(&mut self, cause: Cause) {
         self.causes[cause as usize] += 1;
+    }
+
+    pub fn fact(&mut self, fact: Fact) {
+        self.facts[fact as usize] += 1;
     }
 
     /// Counts the results of one call that went past an end.
@@ -83,7 +89,7 @@ impl Tally {
         self.most_moves = moves.max(self.most_moves);
     }
 
-    /// The answer kinds, refusals, causes and results past an end that never occurred, of those that such plans can have.
+    /// The answer kinds, refusals, causes, facts and results past an end that never occurred, of those that such plans can have.
     pub fn missing(&self, plans: Plans) -> Vec<String> {
         let (refusals, causes) = match plans {
             Plans::All => (1..21, &CAUSES[..]),
@@ -92,10 +98,12 @@ impl Tally {
         let kinds = (0..6).filter(|&kind| self.answers.iter().all(|row| row[kind] == 0));
         let refusals = refusals.filter(|&n| self.refusals[n] == 0);
         let causes = causes.iter().filter(|c| self.causes[c.0 as usize] == 0);
+        let facts = FACTS.iter().filter(|f| self.facts[f.0 as usize] == 0);
         kinds
             .map(|kind| KINDS[kind].to_string())
             .chain(refusals.map(|n| format!("refusal {n}")))
             .chain(causes.map(|(_, name)| name.to_string()))
+            .chain(facts.map(|(_, name)| name.to_string()))
             .chain(self.never_past())
             .collect()
     }
@@ -158,6 +166,10 @@ impl fmt::Display for Tally {
         }
         write!(f, "\n\nby added oracles")?;
         for ((_, name), count) in CAUSES.iter().zip(self.causes) {
+            write!(f, "\n  {name}: {count}")?;
+        }
+        write!(f, "\n\nby ranks and marks")?;
+        for ((_, name), count) in FACTS.iter().zip(self.facts) {
             write!(f, "\n  {name}: {count}")?;
         }
         write!(f, "\n\nresults past the upper and the lower end")?;

@@ -16,7 +16,7 @@ pub enum Disabler {
 pub enum End {
     /// No move is on offer after this many commits.
     NothingOffered(u64),
-    /// An answer that a try of an eligible move cannot have.
+    /// An answer that a try of a move on offer cannot have.
     Unexpected(Answer),
 }
 

@@ -3,7 +3,9 @@
 use planner::drive::{drive, Disabler};
 use planner::lane::Lane;
 use planner::plan::Plan;
-use planner::plans::{chain, maximal, philosophers, robots, sample, sums, tasks, wet_bales};
+use planner::plans::{
+    chain, chain_bad, maximal, philosophers, robots, sample, sums, tasks, wet_bales,
+};
 use planner::rng::Rng;
 use reference::calls;
 use reference::sums::{counted, Past};
@@ -94,6 +96,31 @@ fn the_top_of_the_chain_goes_first() {
         assert_eq!(lane.settle(), answer(COMMITTED, i));
     }
     assert_eq!(lane.offered(), 1 << 63);
+}
+
+#[test]
+fn the_bottom_of_the_bad_chain_is_tried_last() {
+    let mut lane = lane(chain_bad::plan());
+    for i in (1..64).rev() {
+        assert_eq!(lane.offered(), 1 << i);
+        assert_eq!(lane.attempt(i - 1), answer(REFUSED, 18));
+        assert_eq!(lane.attempt(i), answer(CANCELLED, i));
+    }
+    assert_eq!(lane.offered(), 1);
+    commit(&mut lane, &[0]);
+}
+
+#[test]
+fn every_settling_of_the_bad_chain_finds_all_others_enabled_and_bad() {
+    let mut lane = lane(chain_bad::plan());
+    for _ in 0..3 {
+        assert_eq!(settled(&mut lane, 1), [0]);
+        let kept = lane.image;
+        for i in (1..64).rev() {
+            assert_eq!(lane.attempt(i), answer(CANCELLED, i));
+        }
+        lane.image = kept;
+    }
 }
 
 #[test]

@@ -1,10 +1,8 @@
 //! The book of demand 3: it keeps the moves done and the moves crossed off, and no image.
 
-use std::collections::BTreeSet;
-
 use crate::answer::{answer_of, Answer, Refusal};
 use crate::image::{self, Stored, IMAGE_BYTES};
-use crate::lane::{outranked, Lane};
+use crate::lane::{self, Lane, Moves};
 use crate::plan::Plan;
 
 /// What the book is told of a call.
@@ -19,7 +17,7 @@ pub enum Call {
 pub struct Book {
     plan: Plan,
     done: Vec<usize>,
-    crossed_off: BTreeSet<usize>,
+    crossed_off: Moves,
 }
 
 impl Book {
@@ -28,7 +26,7 @@ impl Book {
         Book {
             plan,
             done: Vec::new(),
-            crossed_off: BTreeSet::new(),
+            crossed_off: Moves::new(),
         }
     }
 
@@ -52,7 +50,7 @@ impl Book {
             &self.plan,
             &Stored {
                 lane: self.lane(),
-                marks: bits(&self.crossed_off),
+                marked: self.crossed_off.clone(),
             },
         )
     }
@@ -66,32 +64,28 @@ impl Book {
         self.done.iter().fold(Lane::start(&self.plan), step)
     }
 
-    /// The enabled interactions that no enabled one outranks, lowest first.
-    fn eligible(&self, enabled: &[bool]) -> BTreeSet<usize> {
-        (0..enabled.len())
-            .filter(|&i| enabled[i] && !outranked(&self.plan, enabled, i))
-            .collect()
-    }
-
     fn offered(&self) -> u64 {
-        let eligible = self.eligible(&self.lane().enabled(&self.plan));
-        bits(&eligible.difference(&self.crossed_off).copied().collect())
+        let enabled = self.lane().enabled(&self.plan);
+        image::bits(&lane::offered(&self.plan, &enabled, &self.crossed_off))
     }
 
     fn attempt(&mut self, number: u32) -> Result<Answer, Refusal> {
         let lane = self.lane();
         let enabled = lane.enabled(&self.plan);
         let interaction = number as usize;
-        match enabled.get(interaction) {
-            None => return Err(Refusal::NoSuchMove),
-            Some(false) => return Err(Refusal::NotEnabled),
-            Some(true) if outranked(&self.plan, &enabled, interaction) => {
-                return Err(Refusal::Outranked)
-            }
-            Some(true) if self.crossed_off.contains(&interaction) => return Err(Refusal::Marked),
-            Some(true) => {}
+        if interaction >= self.plan.interactions.len() {
+            return Err(Refusal::NoSuchMove);
         }
-        if self.ends_good(&lane, interaction) {
+        if !enabled.contains(&interaction) {
+            return Err(Refusal::NotEnabled);
+        }
+        if lane::outranked(&self.plan, &enabled, &self.crossed_off, interaction) {
+            return Err(Refusal::Outranked);
+        }
+        if self.crossed_off.contains(&interaction) {
+            return Err(Refusal::Marked);
+        }
+        if lane.ends_good(&self.plan, interaction) {
             Ok(self.list(interaction))
         } else {
             self.crossed_off.insert(interaction);
@@ -102,20 +96,14 @@ impl Book {
     fn settle(&mut self) -> Answer {
         let lane = self.lane();
         let enabled = lane.enabled(&self.plan);
-        let eligible = self.eligible(&enabled);
-        if let Some(&interaction) = eligible.iter().find(|&&i| self.ends_good(&lane, i)) {
+        if let Some(interaction) = lane.settled(&self.plan) {
             self.list(interaction)
-        } else if enabled.contains(&true) {
-            self.crossed_off.extend(eligible);
-            Answer::Penned
-        } else {
+        } else if enabled.is_empty() {
             Answer::Stalled
+        } else {
+            self.crossed_off.extend(enabled);
+            Answer::Penned
         }
-    }
-
-    fn ends_good(&self, lane: &Lane, interaction: usize) -> bool {
-        lane.after(&self.plan, interaction)
-            .is_some_and(|after| after.good(&self.plan))
     }
 
     fn list(&mut self, interaction: usize) -> Answer {
@@ -123,10 +111,4 @@ impl Book {
         self.crossed_off.clear();
         Answer::Committed(interaction)
     }
-}
-
-fn bits(interactions: &BTreeSet<usize>) -> u64 {
-    interactions
-        .iter()
-        .fold(0, |bits, interaction| bits | 1 << interaction)
 }

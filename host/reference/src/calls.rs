@@ -2,7 +2,7 @@
 
 use crate::answer::{answer_of, Answer, Refusal};
 use crate::image::{self, Stored};
-use crate::lane::{outranked, Lane};
+use crate::lane::{self, Lane, Moves};
 use crate::plan::Plan;
 
 pub fn check(plan: &[u8]) -> Answer {
@@ -16,7 +16,7 @@ pub fn start(plan: &[u8], bytes: &mut [u8]) -> Answer {
 /// The answer, and the bits of the moves on offer where it is no refusal.
 pub fn offered(plan: &[u8], bytes: &[u8]) -> (Answer, u64) {
     match Examined::read(plan, bytes) {
-        Ok(examined) => (Answer::Accepted, examined.eligible() & !examined.marks),
+        Ok(examined) => (Answer::Accepted, image::bits(&examined.offered())),
         Err(refusal) => (Answer::Refused(refusal), 0),
     }
 }
@@ -37,93 +37,78 @@ fn try_start(plan: &[u8], bytes: &mut [u8]) -> Result<Answer, Refusal> {
     if !lane.good(&plan) {
         return Err(Refusal::BadStart);
     }
-    bytes.copy_from_slice(&image::write(&plan, &Stored { lane, marks: 0 }));
+    let marked = Moves::new();
+    bytes.copy_from_slice(&image::write(&plan, &Stored { lane, marked }));
     Ok(Answer::Accepted)
 }
 
-/// A lawful plan with a lawful lane, its marks, and which interactions are enabled.
+/// A lawful plan with a lawful lane, and which interactions are marked and enabled.
 struct Examined {
     plan: Plan,
     lane: Lane,
-    marks: u64,
-    enabled: Vec<bool>,
+    marked: Moves,
+    enabled: Moves,
 }
 
 impl Examined {
     fn read(plan: &[u8], bytes: &[u8]) -> Result<Examined, Refusal> {
         let plan = Plan::read(plan)?;
-        let Stored { lane, marks } = image::read(&plan, bytes)?;
+        let Stored { lane, marked } = image::read(&plan, bytes)?;
         let enabled = lane.enabled(&plan);
         Ok(Examined {
             plan,
             lane,
-            marks,
+            marked,
             enabled,
         })
     }
 
-    fn is_eligible(&self, interaction: usize) -> bool {
-        self.enabled[interaction] && !outranked(&self.plan, &self.enabled, interaction)
-    }
-
-    /// Bit i for each interaction that is enabled and not outranked.
-    fn eligible(&self) -> u64 {
-        let bits = (0..self.enabled.len())
-            .filter(|&i| self.is_eligible(i))
-            .map(|i| 1 << i);
-        bits.fold(0, |all, bit: u64| all | bit)
-    }
-
-    /// The lane after a move that ends good.
-    fn good_end(&self, interaction: usize) -> Option<Lane> {
-        self.lane
-            .after(&self.plan, interaction)
-            .filter(|after| after.good(&self.plan))
+    fn offered(&self) -> Moves {
+        lane::offered(&self.plan, &self.enabled, &self.marked)
     }
 
     fn attempt(&self, bytes: &mut [u8], number: u32) -> Result<Answer, Refusal> {
         let interaction = usize::try_from(number).map_err(|_| Refusal::NoSuchMove)?;
-        if interaction >= self.enabled.len() {
+        if interaction >= self.plan.interactions.len() {
             return Err(Refusal::NoSuchMove);
         }
-        if !self.enabled[interaction] {
+        if !self.enabled.contains(&interaction) {
             return Err(Refusal::NotEnabled);
         }
-        if outranked(&self.plan, &self.enabled, interaction) {
+        if lane::outranked(&self.plan, &self.enabled, &self.marked, interaction) {
             return Err(Refusal::Outranked);
         }
-        if self.marks >> interaction & 1 == 1 {
+        if self.marked.contains(&interaction) {
             return Err(Refusal::Marked);
         }
-        let (lane, marks, answer) = match self.good_end(interaction) {
-            Some(after) => (after, 0, Answer::Committed(interaction)),
-            None => (
-                self.lane.clone(),
-                self.marks | 1 << interaction,
-                Answer::Cancelled(interaction),
-            ),
-        };
-        self.store(bytes, lane, marks);
-        Ok(answer)
+        if self.lane.ends_good(&self.plan, interaction) {
+            return Ok(self.commit(bytes, interaction));
+        }
+        let mut marked = self.marked.clone();
+        marked.insert(interaction);
+        self.store(bytes, self.lane.clone(), marked);
+        Ok(Answer::Cancelled(interaction))
     }
 
     fn settle(&self, bytes: &mut [u8]) -> Answer {
-        let eligible = (0..self.enabled.len()).filter(|&i| self.is_eligible(i));
-        let first_good = eligible
-            .filter_map(|i| self.good_end(i).map(|after| (i, after)))
-            .next();
-        if let Some((interaction, after)) = first_good {
-            self.store(bytes, after, 0);
-            Answer::Committed(interaction)
-        } else if self.enabled.contains(&true) {
-            self.store(bytes, self.lane.clone(), self.marks | self.eligible());
-            Answer::Penned
-        } else {
+        if let Some(interaction) = self.lane.settled(&self.plan) {
+            self.commit(bytes, interaction)
+        } else if self.enabled.is_empty() {
             Answer::Stalled
+        } else {
+            self.store(bytes, self.lane.clone(), self.enabled.clone());
+            Answer::Penned
         }
     }
 
-    fn store(&self, bytes: &mut [u8], lane: Lane, marks: u64) {
-        bytes.copy_from_slice(&image::write(&self.plan, &Stored { lane, marks }));
+    fn commit(&self, bytes: &mut [u8], interaction: usize) -> Answer {
+        let after = self.lane.after(&self.plan, interaction);
+        let after = after.expect("a move that ends good is enabled");
+        self.store(bytes, after, Moves::new());
+        Answer::Committed(interaction)
+    }
+
+    fn store(&self, bytes: &mut [u8], lane: Lane, marked: Moves) {
+        bytes.copy_from_slice(&image::write(&self.plan, &Stored { lane, marked }));
     }
 }

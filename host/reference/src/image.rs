@@ -1,7 +1,7 @@
 //! The 312 bytes of a lane, with the rules of refusals 11 to 14.
 
 use crate::answer::Refusal;
-use crate::lane::{outranked, Lane};
+use crate::lane::{Lane, Moves};
 use crate::plan::{Plan, NO_PORT};
 
 pub const IMAGE_BYTES: usize = 312;
@@ -12,11 +12,18 @@ const LOCATIONS: usize = 24;
 const LAST_PORTS: usize = 40;
 const VALUES: usize = 56;
 
-/// A lane with its marks: bit i for interaction i.
+/// A lane with its marks.
 #[derive(Clone, Debug, PartialEq, Eq)]
 pub struct Stored {
     pub lane: Lane,
-    pub marks: u64,
+    pub marked: Moves,
+}
+
+/// Bit i for interaction i.
+pub fn bits(moves: &Moves) -> u64 {
+    moves
+        .iter()
+        .fold(0, |bits, interaction| bits | 1 << interaction)
 }
 
 /// Bytes 0 to 7.
@@ -38,7 +45,7 @@ pub fn write(plan: &Plan, stored: &Stored) -> [u8; IMAGE_BYTES] {
         bytes[ORACLES + n] = state as u8;
     }
     bytes[NUMBER..MARKS].copy_from_slice(&plan.number.to_le_bytes());
-    bytes[MARKS..LOCATIONS].copy_from_slice(&stored.marks.to_le_bytes());
+    bytes[MARKS..LOCATIONS].copy_from_slice(&bits(&stored.marked).to_le_bytes());
     bytes[LAST_PORTS..VALUES].fill(NO_PORT);
     for (c, &location) in lane.locations.iter().enumerate() {
         bytes[LOCATIONS + c] = location as u8;
@@ -58,28 +65,34 @@ pub fn check_length(bytes: &[u8]) -> Result<&[u8; IMAGE_BYTES], Refusal> {
 
 /// The lane and marks that the bytes hold, or the lowest refusal that applies.
 pub fn read(plan: &Plan, bytes: &[u8]) -> Result<Stored, Refusal> {
+    let stored = read_unjudged(plan, bytes)?;
+    if marks_true(plan, &stored) {
+        Ok(stored)
+    } else {
+        Err(Refusal::FalseMark)
+    }
+}
+
+/// The same, whatever the marks.
+pub fn read_unjudged(plan: &Plan, bytes: &[u8]) -> Result<Stored, Refusal> {
     let bytes = check_length(bytes)?;
     if bytes[..ORACLES] != head(plan) || bytes[NUMBER..MARKS] != plan.number.to_le_bytes() {
         return Err(Refusal::OtherPlan);
     }
     let stored = Stored {
         lane: read_lane(plan, bytes),
-        marks: read_marks(bytes),
+        marked: read_marks(bytes),
     };
-    if !state_lawful(plan, bytes, &stored.lane) {
-        Err(Refusal::State)
-    } else if !marks_true(plan, &stored) {
-        Err(Refusal::FalseMark)
-    } else {
+    if state_lawful(plan, bytes, &stored.lane) {
         Ok(stored)
+    } else {
+        Err(Refusal::State)
     }
 }
 
-fn read_marks(bytes: &[u8; IMAGE_BYTES]) -> u64 {
-    bytes[MARKS..LOCATIONS]
-        .iter()
-        .rev()
-        .fold(0, |marks, &byte| marks << 8 | u64::from(byte))
+fn read_marks(bytes: &[u8; IMAGE_BYTES]) -> Moves {
+    let is_set = |n: &usize| bytes[MARKS + n / 8] >> (n % 8) & 1 == 1;
+    (0..8 * (LOCATIONS - MARKS)).filter(is_set).collect()
 }
 
 fn read_lane(plan: &Plan, bytes: &[u8; IMAGE_BYTES]) -> Lane {
@@ -128,16 +141,15 @@ fn state_lawful(plan: &Plan, bytes: &[u8; IMAGE_BYTES], lane: &Lane) -> bool {
     judged && used && unused
 }
 
-/// Whether each mark is on an interaction that is enabled, not outranked, and ends bad.
+/// The rule of refusal 14: each mark is on an enabled interaction that ends bad, and each enabled one above it is marked too.
 fn marks_true(plan: &Plan, stored: &Stored) -> bool {
-    let enabled = stored.lane.enabled(plan);
-    let ends_bad = |i| {
-        stored
-            .lane
-            .after(plan, i)
-            .is_some_and(|after| !after.good(plan))
+    let Stored { lane, marked } = stored;
+    let enabled = lane.enabled(plan);
+    let is_marked_above = |mark| {
+        let mut above = enabled.iter().filter(|&&above| plan.below(mark, above));
+        above.all(|above| marked.contains(above))
     };
     let belongs =
-        |i| i < enabled.len() && enabled[i] && !outranked(plan, &enabled, i) && ends_bad(i);
-    (0..64).filter(|i| stored.marks >> i & 1 == 1).all(belongs)
+        |mark| enabled.contains(&mark) && !lane.ends_good(plan, mark) && is_marked_above(mark);
+    marked.iter().copied().all(belongs)
 }

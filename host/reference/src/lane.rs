@@ -1,7 +1,12 @@
-//! A lane's state and one move on it.
+//! A lane's state, one move on it, and which moves the ranks let pass.
+
+use std::collections::BTreeSet;
 
 use crate::code;
 use crate::plan::{Plan, Transition};
+
+/// A set of interactions.
+pub type Moves = BTreeSet<usize>;
 
 #[derive(Clone, Debug, PartialEq, Eq)]
 pub struct Lane {
@@ -50,11 +55,24 @@ impl Lane {
         self.verdict(plan) != 0
     }
 
-    /// For each interaction whether it is enabled.
-    pub fn enabled(&self, plan: &Plan) -> Vec<bool> {
+    pub fn enabled(&self, plan: &Plan) -> Moves {
         (0..plan.interactions.len())
-            .map(|interaction| self.used(plan, interaction).is_some())
+            .filter(|&interaction| self.used(plan, interaction).is_some())
             .collect()
+    }
+
+    /// Whether an interaction is enabled and ends in a good state.
+    pub fn ends_good(&self, plan: &Plan, interaction: usize) -> bool {
+        self.after(plan, interaction)
+            .is_some_and(|after| after.good(plan))
+    }
+
+    /// The move that settling commits: the lowest-numbered one that is enabled, good, and has no enabled good one above it.
+    pub fn settled(&self, plan: &Plan) -> Option<usize> {
+        let mut good = self.enabled(plan);
+        good.retain(|&interaction| self.ends_good(plan, interaction));
+        let mut lowest_first = good.iter().copied();
+        lowest_first.find(|&i| !good.iter().any(|&above| plan.below(i, above)))
     }
 
     /// The lane after an interaction; none where it is not enabled.
@@ -114,10 +132,16 @@ impl Lane {
     }
 }
 
-/// Whether an enabled interaction lies above this one.
-pub fn outranked(plan: &Plan, enabled: &[bool], interaction: usize) -> bool {
-    enabled
-        .iter()
-        .enumerate()
-        .any(|(above, &enabled)| enabled && plan.below(interaction, above))
+/// Whether an enabled, unmarked interaction lies above this one.
+pub fn outranked(plan: &Plan, enabled: &Moves, marked: &Moves, interaction: usize) -> bool {
+    let mut unmarked = enabled.difference(marked);
+    unmarked.any(|&above| plan.below(interaction, above))
+}
+
+/// The moves on offer: enabled, not outranked, unmarked.
+pub fn offered(plan: &Plan, enabled: &Moves, marked: &Moves) -> Moves {
+    let unmarked = enabled.difference(marked).copied();
+    unmarked
+        .filter(|&interaction| !outranked(plan, enabled, marked, interaction))
+        .collect()
 }

@@ -116,6 +116,8 @@ plan bad-start.plan 49 02
 plan other-number.plan 4 08
 plan 1-below-0.plan 188 01
 plan 0-below-1.plan 180 02
+# As 1-below-0.plan, but every move is bad: the proposition is that the last port is not "none yet".
+plan 1-below-0-all-bad.plan 188 01 , 206 02 , 224 ff 50 06 60
 plan states-swapped.plan 22 01 , 208 00 00 00 02 01 00
 plan owes-five.plan 56 fb ff ff ff
 { head -c 60 sample.plan; tail -c +109 sample.plan; } > shorter.plan

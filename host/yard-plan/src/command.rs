@@ -15,7 +15,7 @@ const HELP: &str = "\
 usage: yard-plan COMMAND, where COMMAND is one of
   show FILE         prints a plan's tables, code as expressions
   check FILE        says whether a plan is accepted; if not, every fault with its record, byte, rule and cure
-  image PLAN IMAGE  shows a lane: locations, last ports, values, marks, what is on offer; if it is refused, every fault with its byte and cure
+  image PLAN IMAGE  shows a lane: locations, last ports, values, marks, what is on offer and what is held down; if it is refused, every fault with its byte and cure
   --help, -h        prints this
 status
   0  accepted

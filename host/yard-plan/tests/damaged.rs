@@ -25,7 +25,7 @@ struct Tally {
     no_mend: Row,
 }
 
-/// Causes that added oracles bring, each by its number and what its text has; the first fault of some plan, or image, has each.
+/// Causes that added oracles and ranks bring, each by its number and what its text has; the first fault of some plan, or image, has each.
 const PLAN_CAUSES: [(u32, &str); 10] = [
     (1, "bytes 46 and 47 are "),
     (2, "but a plan has 0 to 3"),
@@ -38,10 +38,14 @@ const PLAN_CAUSES: [(u32, &str); 10] = [
     (20, ", but this state has verdict 0"),
     (20, ", but this state has verdict 3"),
 ];
-const IMAGE_CAUSES: [(u32, &str); 3] = [
+const IMAGE_CAUSES: [(u32, &str); 7] = [
     (13, ", but added oracle "),
     (13, " of added oracle 1 has verdict 0"),
     (13, "the state of added oracle "),
+    (14, " above it is enabled and not marked"),
+    (14, " above it are enabled and not marked"),
+    (14, " above it is enabled and may not be marked"),
+    (14, ", which would end well: "),
 ];
 
 /// Takes a fault's cause out of those not met yet.
@@ -151,7 +155,7 @@ fn report(tally: &Tally) {
     println!("   all {refused:9} {single:13} {cured:20} {none:8}");
 }
 
-/// A lane of the plan after a few settlings and tries, or with another state.
+/// A lane of the plan after a few settlings and tries, or with another state or other marks.
 fn lane(rng: &mut Rng, plan: &[u8], lawful: &reference::draft::Draft) -> Option<Vec<u8>> {
     let mut image = vec![0; yard::IMAGE_BYTES];
     if yard::start(plan, &mut image).kind != yard::ACCEPTED {
@@ -164,9 +168,10 @@ fn lane(rng: &mut Rng, plan: &[u8], lawful: &reference::draft::Draft) -> Option<
         let number = rng.below(lawful.interactions.len()) as u32;
         yard::attempt(plan, &mut image, number);
     }
-    Some(match rng.chance(30) {
-        true => images::redressed(rng, &image, lawful),
-        false => image,
+    Some(match rng.below(10) {
+        0..=2 => images::redressed(rng, &image, lawful),
+        3 | 4 => images::marked(rng, &image, lawful),
+        _ => image,
     })
 }
 
@@ -259,7 +264,16 @@ fn a_refused_start_is_told_of_an_accepted_plan() {
     assert!(refused > 20 && no_way > 20 && added > 20);
 }
 
-/// With nothing on offer, marks tell the two apart: ranks have a highest move, which is on offer or marked where anything is enabled.
+/// Asserts that a try of each move told to be held down is refused 18, and of no other.
+fn held_down(plan: &[u8], image: &[u8], told: &str) {
+    let held = told.split("\nheld down\n").nth(1).unwrap_or("");
+    let number = |line: &str| line.trim().split(':').next()?.parse::<u32>().ok();
+    let told: Vec<u32> = held.lines().filter_map(number).collect();
+    let tried = |&i: &u32| report::number(yard::attempt(plan, &mut image.to_vec(), i)) == 18;
+    assert_eq!(told, Vec::from_iter((0..64).filter(tried)));
+}
+
+/// With nothing on offer, marks tell the two apart: of enabled moves without a mark one has none above it, and is on offer.
 #[test]
 fn nothing_on_offer_is_stalled_or_penned() {
     let mut rng = Rng::new(19);
@@ -278,6 +292,7 @@ fn nothing_on_offer_is_stalled_or_penned() {
         let (output, _) = image::show(&plan, &image);
         assert_eq!(image, kept);
         let told = output.rsplit("\non offer\n").next().unwrap();
+        held_down(&plan, &image, told);
         assert!(!told.contains("although"), "{told}");
         let none = told.starts_with("  none: ");
         assert_eq!(none, yard::offered_bits(&plan, &image) == 0);

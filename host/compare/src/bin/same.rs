@@ -1,6 +1,6 @@
 //! Compares every call of libyard.a with that of an older build as well, whose calls are named old_; with --old on plans without added oracles alone.
-//! Calls in which the reference sees an exact result past an end of 32 bits may mean something else to the older build, whose sums may wrap: it is left out of
-//! these, and it is said how many they are and in how many it differs. In all others its answer and image must be the same.
+//! By the older build an interaction that ends bad may hold others down, marked or not. It is left out of the calls on a lane in which the reference sees an enabled interaction above
+//! another, where alone that can be told, and it is said how many these are and in how many it differs. In all others its answer and image must be the same.
 
 use std::process::ExitCode;
 

@@ -3,7 +3,7 @@
 //! Sixteen bays in a ring pass units on. Bay c has variables 4c to 4c+3: level, units given, moves seen, peak level.
 //! Interaction 16j+c: bay c gives 4-j units to the next bay, and all other bays watch. A bay must not reach CAP.
 //! A bay lies below those 4, 8 and 12 further on, for equal loads. Each bay starts with 4 units, so 64 go round for
-//! ever: to pen the lane, four bays would have to be one unit short of CAP.
+//! ever: to pen the lane, every bay would have to be one unit short of CAP.
 //!
 //! One plan has one oracle, which judges all bays. The other has four, each of which judges four bays: every move ends
 //! as it does in the first.

@@ -1,6 +1,7 @@
 //! The plans of the folder plans/, one file each.
 
 pub mod chain;
+pub mod chain_bad;
 pub mod maximal;
 pub mod philosophers;
 pub mod robots;
@@ -22,6 +23,7 @@ pub fn all() -> Vec<(&'static str, Plan)> {
         ("robots-100.plan", robots::plan(100)),
         ("tasks.plan", tasks::plan()),
         ("chain.plan", chain::plan()),
+        ("chain-bad.plan", chain_bad::plan()),
         ("maximal.plan", maximal::plan()),
         ("maximal-oracles.plan", maximal::with_oracles()),
         ("wet-bales.plan", wet_bales::plan()),

@@ -3,8 +3,8 @@
 //! Components: 0 task 1, 1 controller, 2 task 2. Interactions: 0 and 1 start of task 1 and 2, 2 and 3 exec,
 //! 4 and 5 finish, 6 and 7 fail, 8 and 9 reset; start, finish and fail are shared with the controller.
 //!
-//! Ranks: 000 sets the start connectors above the others. Its example of start 1 below start 2 is left out: start 2,
-//! enabled and bad, would hold start 1 down for good. Exec and reset are in no connector and in no rank.
+//! Ranks: 000 sets the start connectors above the others. Its example of start 1 below start 2 is left out: where start 1
+//! is due, start 2 is enabled and bad, and would have to be tried first. Exec and reset are in no connector and in no rank.
 //!
 //! Oracle: Fig. 4's monitor with each of its two good states split by whether the awaited start still shows as a last
 //! port, so that a start seen twice counts once. This gives example 6's verdicts on example 5's run.

@@ -51,11 +51,42 @@ fn book_is_empty_after_start() {
     assert_eq!(book.image(), started(&sample()));
 }
 
-#[test]
-fn a_penned_book_crosses_off_every_eligible_move() {
+/// The book of a lane whose move 1 lies below 0, and that is bad after any move.
+fn all_bad() -> Book {
     let mut draft = sample();
     draft.interactions[1].rank = 1;
-    let mut book = Book::new(Plan::read(&draft.bytes()).unwrap());
+    draft.propositions[0] = add(&mut draft, &[0x50ff, 0x6006]);
+    Book::new(Plan::read(&draft.bytes()).unwrap())
+}
+
+#[test]
+fn a_penned_book_crosses_off_every_enabled_move() {
+    let mut book = all_bad();
     assert_eq!(book.call(Call::Settle), (Answer::Penned, 0));
-    assert_eq!(marks(&book.image()), 1);
+    assert_eq!(marks(&book.image()), 0b11);
+}
+
+#[test]
+fn a_move_crossed_off_holds_none_down() {
+    let mut book = all_bad();
+    let outranked = Answer::Refused(Refusal::Outranked);
+    assert_eq!(book.call(Call::Offered), (Answer::Accepted, 0b01));
+    assert_eq!(book.call(Call::Try(1)), (outranked, 0));
+    assert_eq!(book.call(Call::Try(0)), (Answer::Cancelled(0), 0));
+    assert_eq!(book.call(Call::Offered), (Answer::Accepted, 0b10));
+    assert_eq!(book.call(Call::Try(1)), (Answer::Cancelled(1), 0));
+}
+
+#[test]
+fn a_book_settles_on_a_move_below_a_bad_one() {
+    let mut draft = sample();
+    draft.interactions[1].rank = 1;
+    for crossed_off in [false, true] {
+        let mut book = Book::new(Plan::read(&draft.bytes()).unwrap());
+        if crossed_off {
+            assert_eq!(book.call(Call::Try(0)), (Answer::Cancelled(0), 0));
+        }
+        assert_eq!(book.call(Call::Settle), (Answer::Committed(1), 0));
+        assert_eq!(marks(&book.image()), 0);
+    }
 }

@@ -94,8 +94,9 @@ fn case_08_settling_after_a_cancelled_move_gives_the_image_of_case_7() {
 }
 
 #[test]
-fn case_09_with_1_below_0_only_0_is_eligible() {
-    let mut plan = sample();
+fn case_09_with_1_below_0_settling_gives_the_image_of_case_7() {
+    let (mut plan, mut straight) = (sample(), started(&sample()));
+    settle(&plan, &mut straight);
     plan.interactions[1].rank = 1;
     let mut image = started(&plan);
     assert_eq!(offered(&plan, &image), (Answer::Accepted, 1));
@@ -103,8 +104,8 @@ fn case_09_with_1_below_0_only_0_is_eligible() {
         attempt(&plan, &mut image, 1),
         Answer::Refused(Refusal::Outranked)
     );
-    assert_eq!(settle(&plan, &mut image), Answer::Penned);
-    assert_eq!(marks(&image), 1);
+    assert_eq!(settle(&plan, &mut image), Answer::Committed(1));
+    assert_eq!(image, straight);
 }
 
 #[test]

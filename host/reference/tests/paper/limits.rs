@@ -176,6 +176,47 @@ fn longest_plan_is_accepted() {
     assert_eq!(check(&plan), Answer::Accepted);
 }
 
+/// Sixty-four interactions in one chain, 0 the lowest; the others end weighed without a tare, which is bad.
+fn chain(lowest: Interaction) -> Draft {
+    let mut plan = sample();
+    plan.interactions = vec![interaction(1); 64];
+    plan.interactions[0] = lowest;
+    for (i, interaction) in plan.interactions.iter_mut().enumerate() {
+        interaction.rank = u64::MAX.checked_shl(i as u32 + 1).unwrap_or(0);
+    }
+    plan
+}
+
+#[test]
+fn the_lowest_of_64_in_a_chain_is_committed_where_the_others_are_bad() {
+    let plan = chain(interaction(0));
+    let mut image = started(&plan);
+    assert_eq!(offered(&plan, &image), (Answer::Accepted, 1 << 63));
+    for number in (1..64).rev() {
+        assert_eq!(
+            settle(&plan, &mut image.clone()),
+            Answer::Committed(0),
+            "with marks from {number} up"
+        );
+        let cancelled = Answer::Cancelled(number as usize);
+        assert_eq!(attempt(&plan, &mut image, number), cancelled);
+        assert_eq!(
+            offered(&plan, &image),
+            (Answer::Accepted, 1 << (number - 1))
+        );
+    }
+    assert_eq!(attempt(&plan, &mut image, 0), Answer::Committed(0));
+}
+
+#[test]
+fn all_64_of_a_chain_are_marked_where_all_are_bad() {
+    let plan = chain(interaction(1));
+    let mut image = started(&plan);
+    assert_eq!(settle(&plan, &mut image), Answer::Penned);
+    assert_eq!(marks(&image), u64::MAX);
+    assert_eq!(settle(&plan, &mut image), Answer::Penned);
+}
+
 #[test]
 fn no_components_no_interactions_and_no_oracle_states() {
     let without: [fn(&mut Draft); 3] = [

@@ -407,7 +407,7 @@ fn r14_mark_on_a_move_that_is_not_enabled() {
 }
 
 #[test]
-fn r14_mark_on_an_outranked_move() {
+fn r14_mark_below_an_enabled_move_without_one() {
     let mut plan = sample();
     plan.interactions[0].rank = 1 << 1;
     let mut image = started(&plan);
@@ -416,6 +416,15 @@ fn r14_mark_on_an_outranked_move() {
         settle(&plan, &mut image),
         Answer::Refused(Refusal::FalseMark)
     );
+}
+
+#[test]
+fn a_mark_below_a_move_that_is_not_enabled_is_true() {
+    let mut plan = sample();
+    plan.interactions[0].rank = 1 << 2;
+    let mut image = started(&plan);
+    image[16] = 1;
+    assert_eq!(offered(&plan, &image), (Answer::Accepted, 0b10));
 }
 
 #[test]
@@ -449,27 +458,32 @@ fn r17_interaction_guard_false() {
 }
 
 #[test]
-fn r18_outranked_by_a_marked_move() {
+fn r18_until_the_move_above_is_marked() {
     let mut plan = sample();
     plan.interactions[1].rank = 1;
     let mut image = started(&plan);
-    assert_eq!(attempt(&plan, &mut image, 0), Answer::Cancelled(0));
     assert_eq!(
         attempt(&plan, &mut image, 1),
         Answer::Refused(Refusal::Outranked)
     );
+    assert_eq!(attempt(&plan, &mut image, 0), Answer::Cancelled(0));
+    assert_eq!(offered(&plan, &image), (Answer::Accepted, 0b10));
+    assert_eq!(attempt(&plan, &mut image, 1), Answer::Committed(1));
 }
 
 #[test]
 fn r19_a_penned_lane_has_its_moves_marked() {
     let mut plan = sample();
     plan.interactions[1].rank = 1;
+    plan.propositions[0] = add(&mut plan, &[0x50ff, 0x6006]);
     let mut image = started(&plan);
     assert_eq!(settle(&plan, &mut image), Answer::Penned);
-    assert_eq!(
-        attempt(&plan, &mut image, 0),
-        Answer::Refused(Refusal::Marked)
-    );
+    for number in [0, 1] {
+        assert_eq!(
+            attempt(&plan, &mut image, number),
+            Answer::Refused(Refusal::Marked)
+        );
+    }
 }
 
 #[test]

@@ -1,8 +1,8 @@
-//! 14: a mark at or above the interactions, or on one that is not enabled, is outranked, or would end in a good state.
-//! The reference says what is enabled and how a move ends.
+//! 14: a mark at or above the interactions, or on one that is not enabled, would end in a good state, or lies below an enabled one without a
+//! mark. The reference says what is enabled and how a move ends.
 
 use reference::code;
-use reference::lane::{outranked, Lane};
+use reference::lane::{Lane, Moves};
 use reference::plan::{Plan, Transition};
 
 use super::places::{Image, LAST_COPY, MARKS};
@@ -38,16 +38,37 @@ pub fn outside(tables: &Tables, image: &Image) -> Vec<Fault> {
     past.map(|mark| fault(image, mark, why())).collect()
 }
 
-/// Marks on moves that may not be crossed off, in a lawful state.
+/// Marks on moves that may not be crossed off, in a lawful state. Those that are left once these are cleared may stand.
 pub fn untrue(plan: &[u8], tables: &Tables, image: &Image) -> Vec<Fault> {
     let Ok(plan) = Plan::read(plan) else {
         return Vec::new();
     };
     let lane = lane(tables, image);
-    let marks = bits(image.marks()).filter(|&mark| mark < tables.interactions.len());
-    let untrue =
-        marks.filter_map(|mark| Some(fault(image, mark, why(&plan, tables, &lane, mark)?)));
+    let site = Site {
+        enabled: lane.enabled(&plan),
+        marked: bits(image.marks()).collect(),
+        plan: &plan,
+        tables,
+        lane,
+    };
+    let marks = site.marked.range(..tables.interactions.len());
+    let untrue = marks.filter_map(|&mark| Some(fault(image, mark, site.why(mark)?)));
     untrue.collect()
+}
+
+/// The unmarked moves that unmarked ones hold down, each with these; in an image that is accepted.
+pub fn held_down(plan: &[u8], tables: &Tables, image: &Image) -> Vec<(usize, Moves)> {
+    let Ok(plan) = Plan::read(plan) else {
+        return Vec::new();
+    };
+    let mut open = lane(tables, image).enabled(&plan);
+    open.retain(|&i| image.marks() >> i & 1 == 0);
+    let above = |i| -> Moves {
+        let above = open.iter().copied().filter(|&above| plan.below(i, above));
+        above.collect()
+    };
+    let held = open.iter().map(|&i| (i, above(i)));
+    held.filter(|(_, above)| !above.is_empty()).collect()
 }
 
 fn lane(tables: &Tables, image: &Image) -> Lane {
@@ -68,20 +89,53 @@ fn lane(tables: &Tables, image: &Image) -> Lane {
     }
 }
 
-/// Why a mark may not stand; none where the move ends bad and is on offer but for its mark.
-fn why(plan: &Plan, tables: &Tables, lane: &Lane, mark: usize) -> Option<String> {
-    let enabled = lane.enabled(plan);
-    let Some(after) = lane.after(plan, mark) else {
-        let why = not_enabled(plan, tables, lane, mark);
-        return Some(format!("which is not enabled: {why}"));
-    };
-    if outranked(plan, &enabled, mark) {
-        let above = (0..enabled.len()).filter(|&j| enabled[j] && plan.below(mark, j));
-        return Some(format!("which is outranked by {}", list(above)));
+/// A lane with its marks.
+struct Site<'a> {
+    plan: &'a Plan,
+    tables: &'a Tables,
+    lane: Lane,
+    enabled: Moves,
+    marked: Moves,
+}
+
+impl Site<'_> {
+    /// Why a mark may not stand; none where the move ends bad and so does each enabled one above it, all of them marked.
+    fn why(&self, mark: usize) -> Option<String> {
+        let Some(after) = self.lane.after(self.plan, mark) else {
+            let why = not_enabled(self.plan, self.tables, &self.lane, mark);
+            return Some(format!("which is not enabled: {why}"));
+        };
+        if after.good(self.plan) {
+            let verdicts = verdicts(self.plan, &after);
+            return Some(format!("which would end well: {verdicts}"));
+        }
+        let unmarked = self.above(mark, |above| !self.marked.contains(&above));
+        let untrue = self.above(mark, |above| self.lane.ends_good(self.plan, above));
+        if !unmarked.is_empty() {
+            Some(format!("but {} enabled and not marked", named(&unmarked)))
+        } else if !untrue.is_empty() {
+            Some(format!(
+                "but {} enabled and may not be marked",
+                named(&untrue)
+            ))
+        } else {
+            None
+        }
     }
-    after
-        .good(plan)
-        .then(|| format!("which would end well: {}", verdicts(plan, &after)))
+
+    /// The enabled interactions above this one that a test admits.
+    fn above(&self, mark: usize, admits: impl Fn(usize) -> bool) -> Vec<usize> {
+        let above = self.enabled.iter().copied();
+        above
+            .filter(|&above| self.plan.below(mark, above) && admits(above))
+            .collect()
+    }
+}
+
+/// "5 above it is", "5, 7 above it are".
+fn named(above: &[usize]) -> String {
+    let verb = if above.len() == 1 { "is" } else { "are" };
+    format!("{} above it {verb}", list(above))
 }
 
 /// The state of each oracle with its verdict.

@@ -30,7 +30,10 @@ pub fn show(plan: &[u8], image: &[u8]) -> (String, u8) {
         output += &match number {
             12 => head::own(plan, &tables, &read),
             // Past 12 the image is a lane of this plan.
-            0 => lane(&tables, &read, offer::lines(plan, &tables, image)),
+            0 => {
+                let offered = offer::lines(plan, &tables, image);
+                lane(&tables, &read, offered) + &offer::held_down(plan, &tables, &read)
+            }
             13 | 14 => lane(&tables, &read, offer::not_told()),
             _ => String::new(),
         };

@@ -1,7 +1,11 @@
-//! The moves on offer; where there are none, why: what a settling answers on a copy.
+//! The moves on offer; where there are none, why: what a settling answers on a copy. And the moves that others hold down.
 
+use super::marks;
 use super::moves;
+use super::places::Image;
+use crate::show;
 use crate::tables::Tables;
+use crate::text::list;
 
 /// The lines for an accepted image.
 pub fn lines(plan: &[u8], tables: &Tables, image: &[u8]) -> Vec<String> {
@@ -15,14 +19,31 @@ pub fn not_told() -> Vec<String> {
     vec!["not told, since the image is refused".to_string()]
 }
 
-/// Why nothing is on offer, by the answer of a settling. It is stalled, or penned where every move that could be made is marked; the others
-/// would contradict what was offered, and are said as they are.
+/// A section for the unmarked moves of an accepted image that others hold down, where there are any.
+pub fn held_down(plan: &[u8], tables: &Tables, image: &Image) -> String {
+    let held = marks::held_down(plan, tables, image).into_iter();
+    let line = |(i, above)| {
+        let held = moves(tables, 1_u64 << i).concat();
+        format!(
+            "{held}; held down by {}, enabled and not marked",
+            list(above)
+        )
+    };
+    let lines: Vec<String> = held.map(line).collect();
+    match lines.is_empty() {
+        true => String::new(),
+        false => show::section("held down", lines),
+    }
+}
+
+/// Why nothing is on offer, by the answer of a settling. It is stalled, or penned where every enabled move is marked; the others would
+/// contradict what was offered, and are said as they are.
 fn none(settled: yard::Answer) -> String {
     let number = settled.number;
     match settled.kind {
         yard::STALLED => "none: nothing is enabled (a settling would answer stalled)".to_string(),
         yard::PENNED => {
-            "none: every move that could be made ends bad (a settling would answer penned)"
+            "none: every enabled move ends bad and is marked (a settling would answer penned)"
                 .to_string()
         }
         yard::COMMITTED => format!("none, although a settling would commit {number}"),

@@ -19,8 +19,8 @@ returns c =
     let r = c .before in
     let s = r .before .before in
     c .meets .ensures
-    ∙ ap (λ (x : ℕ). some-below 64 (λ j. bit x j && bit (s .args .enabled) j)) (r .rank-row .ensures)
-    ∙ row-outranks (s .args .plan .now) (s .args .enabled) (s .args .i) (s .pre .0) (s .pre .1)
+    ∙ ap (λ (x : ℕ). some-below 64 (λ j. bit x j && bit (s .args .moves) j)) (r .rank-row .ensures)
+    ∙ row-outranks (s .args .plan .now) (s .args .moves) (s .args .i) (s .pre .0) (s .pre .1)
 
 pub is-outranked-spec : {M : Type 1} → statement M
 is-outranked-spec = tie.close (tie.spec rank-row-requires meets-requires returns)

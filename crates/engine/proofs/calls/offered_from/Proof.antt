@@ -1,25 +1,36 @@
-use Rattle.semantics.specs.Calls.{offered}
+use mathlib.Core.Path.{ap, _∙_}
+use Prim.Native.Nat.{ℕ}
+use Rattle.semantics.specs.Calls.{offers}
+use Rattle.semantics.proofs.LawfulImage.{lawful-image}
 use Rattle.engine.specs.Answers.{answerOf}
-use Rattle.engine.proofs.CallLaws.{parts, called-refused}
+use Rattle.engine.proofs.CallLaws.{parts}
+use Rattle.engine.proofs.ReadLaws.{Seen, offer-refused, passed, ends-offered, offer-low}
 use borrow.Author.Needs.{needs}
 use Rattle.engine.proofs.calls.offered_from.Statement.{statement}
 use Rattle.engine.proofs.calls.offered_from.Tie as tie
 
-unreadable-requires : tie.Need-unreadable-requires
-unreadable-requires c κs = search needs
+abbrev begun : tie.After-seen → tie.Start
+begun c = c .before .before .before
+
+seen : (c : tie.After-seen) → Seen (begun c .args .plan .now) (begun c .args .image .now) (c .seen .result)
+seen c = record { refusal-is = c .seen .ensures .0; known = c .seen .ensures .1 }
+
+seen-requires : tie.Need-seen-requires
+seen-requires c κs = search needs
 
 returns : tie.Need-returns
 unfolding answerOf
-returns c =
-    let s = c .before .before .before .before in
-    let (e, some) = c .unreadable .ensures in
-    parts (called-refused (s .args .plan .now) (s .args .image .now) offered (c .unreadable .result) e some) .0
+returns c = parts (offer-refused (seen (c .before)) (c .if1 .taken)) .0
 
-offered-on-requires : tie.Need-offered-on-requires
-offered-on-requires c κs = search needs
+standing-mask-requires : tie.Need-standing-mask-requires
+standing-mask-requires c κs =
+    let w = seen (c .before) in (lawful-image _ _ (passed w (c .if1 .left)) .plan-accepted, offer-low w (c .if1 .left))
 
 returns-2 : tie.Need-returns-2
-returns-2 c = search needs
+unfolding answerOf
+returns-2 c =
+    let k = c .before in
+    ap (λ (m : ℕ). offers m) (c .standing-mask .ensures) ∙ parts (ends-offered (seen (k .before)) (k .if1 .left)) .0
 
 pub offered-from-spec : {M : Type 1} → statement M
-offered-from-spec = tie.close (tie.spec unreadable-requires returns offered-on-requires returns-2)
+offered-from-spec = tie.close (tie.spec seen-requires returns standing-mask-requires returns-2)

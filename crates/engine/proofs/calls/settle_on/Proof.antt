@@ -1,13 +1,10 @@
 -- `engine::calls::settle_on` answers and leaves what the definition does.
-use mathlib.Core.Path.{_≡_, refl, ap, _∙_}
-use mathlib.Core.Bool.{true, false}
-use Prim.Native.Nat.{ℕ, _≤_, _<_, _^_}
+use mathlib.Core.Path.{refl, ap, _∙_}
+use Prim.Native.Nat.{_≤_, _<_}
 use native.Mathlib.Omega.{arith}
-use Rattle.semantics.specs.Bytes.{bit}
 use Rattle.semantics.specs.Plan.{maxInteractions, interactions}
-use Rattle.semantics.specs.Image.{image, withMarks}
+use Rattle.semantics.specs.Image.{image}
 use Rattle.semantics.specs.Calls.{settle}
-use Rattle.semantics.proofs.Basics.{not-yes, not-no}
 use Rattle.semantics.proofs.LawfulImage.{LawfulImage}
 use Rattle.layout.proofs.Sections.{laid-accepted}
 use Rattle.lane.specs.declared.run.Run.{Run}
@@ -15,7 +12,7 @@ use Rattle.semantics.specs.Move.{Configuration}
 use Rattle.lane.specs.Runs.{Sized}
 use Rattle.engine.specs.Answers.{answerOf}
 use Rattle.engine.proofs.CallLaws.{parts}
-use Rattle.engine.proofs.ReadLaws.{Read, unset-none, loaded-held, ends-refused, lawful, in-range, open-move, ends-settled, ends-stalled, ends-penned}
+use Rattle.engine.proofs.ReadLaws.{Read, unset-none, loaded-held, ends-refused, lawful, in-range, open-low, open-move, closed-move, ends-settled, ends-stalled, ends-penned}
 use borrow.Author.Needs.{needs}
 use Rattle.engine.proofs.calls.settle_on.Statement.{statement}
 use Rattle.engine.proofs.calls.settle_on.Tie as tie
@@ -66,13 +63,10 @@ unfolding answerOf
 returns c = parts (ends-refused (read (c .before)) settle (c .if1 .taken))
 
 abbrev kept : tie.After-numbers → tie.Else1
-kept c = c .before .before .before .before .before .before .before .before .before
+kept c = c .before .before .before .before .before .before .before
 
-word : (c : tie.After-load) → c .load .result .marks < 2 ^ 64
-word c = search needs
-
-lowest-good-requires : tie.Need-lowest-good-requires
-lowest-good-requires c κs =
+safe-move-requires : tie.Need-safe-move-requires
+safe-move-requires c κs =
     let k = kept c in
     let e = k .before in
     let r = read e in
@@ -80,7 +74,7 @@ lowest-good-requires c κs =
       past k .plan-accepted,
       (
         (e .read .ensures .1 .0 z, in-range r z),
-        ((sized (loaded (e .before)), refl), open-move r z (word (loaded (e .before)))),
+        ((sized (loaded (e .before)), refl), ((open-low r z, open-move r z), closed-move r z)),
       ),
     )
 
@@ -88,21 +82,21 @@ interactions-requires : tie.Need-interactions-requires
 interactions-requires c κs = laid-accepted _ (past (kept (c .before)) .plan-accepted) .long
 
 -- the move that was found is one of the plan's
-below : (c : tie.Then2) → c .before .before .lowest-good .result .number < interactions (begun (kept (c .before .before .before) .before .before) .args .plan .now)
+below : (c : tie.Then2) → c .before .before .safe-move .result .number < interactions (begun (kept (c .before .before .before) .before .before) .args .plan .now)
 below c = omega (arith, c .before .interactions .ensures .0, c .if2 .taken)
 
 -- none was found
-above : (c : tie.Else2) → interactions (begun (kept (c .before .before .before) .before .before) .args .plan .now) ≤ c .before .before .lowest-good .result .number
+above : (c : tie.Else2) → interactions (begun (kept (c .before .before .before) .before .before) .args .plan .now) ≤ c .before .before .safe-move .result .number
 above c = omega (arith, c .before .interactions .ensures .0, c .if2 .left)
 
 store-requires : tie.Need-store-requires
 store-requires c κs =
     let f = c .before .before .before .before .before .before .before in
     let w = past (kept (f .before)) in
-    (w .plan-accepted, (w .long, f .lowest-good .ensures .0))
+    (w .plan-accepted, (w .long, f .safe-move .ensures .0))
 
-cast-t46 : tie.Need-cast-t46
-cast-t46 c =
+cast-t44 : tie.Need-cast-t44
+cast-t44 c =
     let t = c .before .before .before .before .before .before .before .before in
     omega (arith, below t, few (kept (t .before .before .before)))
 
@@ -117,9 +111,9 @@ returns-2 c =
     let f = t .before .before in
     let k = kept (f .before) in
     let e = k .before in
-    let g = f .lowest-good in
-    let w = parts (ends-settled (read e) (k .if1 .left) (word (loaded (e .before))) (g .result .number) (g .ensures .1 .0) (below t)) in
-    (w .0, st .store .ensures ∙ ap (λ (x : Configuration). image (begun (e .before) .args .plan .now) x 0) (g .ensures .1 .1 .0 (below t)) ∙ w .1)
+    let g = f .safe-move in
+    let w = parts (ends-settled (read e) (k .if1 .left) (g .result .number) (g .ensures .1 .0) (below t)) in
+    (w .0, st .store .ensures ∙ ap (λ (x : Configuration). image (begun (e .before) .args .plan .now) x 0) (g .ensures .1 .1 (below t)) ∙ w .1)
 
 same-length-3 : tie.Need-same-length-3
 same-length-3 c = search needs
@@ -131,8 +125,8 @@ returns-3 c =
     let f = n .before .before in
     let k = kept (f .before) in
     let e = k .before in
-    let g = f .lowest-good in
-    parts (ends-stalled (read e) (k .if1 .left) (word (loaded (e .before))) (g .result .number) (g .ensures .1 .0) (above n) (c .if3 .taken))
+    let g = f .safe-move in
+    parts (ends-stalled (read e) (k .if1 .left) (g .result .number) (g .ensures .1 .0) (above n) (c .if3 .taken))
 
 put-marks-requires : tie.Need-put-marks-requires
 put-marks-requires c κs = past (kept (c .before .before .before .before .before .before)) .long
@@ -149,8 +143,8 @@ returns-4 c =
     let f = n .before .before in
     let k = kept (f .before) in
     let e = k .before in
-    let g = f .lowest-good in
-    let w = parts (ends-penned (read e) (k .if1 .left) (word (loaded (e .before))) (g .result .number) (g .ensures .1 .0) (above n) (l .if3 .left)) in
+    let g = f .safe-move in
+    let w = parts (ends-penned (read e) (k .if1 .left) (g .result .number) (g .ensures .1 .0) (above n) (l .if3 .left)) in
     (w .0, m .put-marks .ensures ∙ w .1)
 
 pub settle-on-spec : {M : Type 1} → statement M
@@ -162,10 +156,10 @@ settle-on-spec =
     read-requires
     same-length
     returns
-    lowest-good-requires
+    safe-move-requires
     interactions-requires
     store-requires
-    cast-t46
+    cast-t44
     same-length-2
     returns-2
     same-length-3

@@ -1,17 +1,17 @@
 -- `engine::calls::try_on` answers and leaves what the definition does.
 use mathlib.Core.Path.{_≡_, sym, ap, _∙_}
-use mathlib.Core.Bool.{true, false}
-use Prim.Native.Nat.{ℕ, _≤_, _<_, _^_}
+use mathlib.Core.Bool.{true, false, _&&_}
+use Prim.Native.Nat.{ℕ, _≤_, _<_}
 use native.Mathlib.Omega.{arith}
-use Rattle.semantics.specs.Bytes.{bit}
-use Rattle.semantics.specs.Plan.{maxInteractions, interactions}
+use Rattle.semantics.specs.Bytes.{some-below, bit}
+use Rattle.semantics.specs.Plan.{maxInteractions, interactions, below}
 use Rattle.semantics.specs.Image.{image, withMarks}
 use Rattle.semantics.specs.Calls.{try}
 use Rattle.semantics.proofs.Basics.{not-yes, not-no}
 use Rattle.semantics.proofs.LawfulImage.{LawfulImage}
 use Rattle.layout.proofs.Sections.{laid-accepted}
 use Rattle.lane.specs.declared.run.Run.{Run}
-use Rattle.lane.specs.Runs.{Sized, configurationIn}
+use Rattle.lane.specs.Runs.{Sized}
 use Rattle.engine.specs.Answers.{answerOf}
 use Rattle.engine.proofs.CallLaws.{parts}
 use Rattle.engine.proofs.ReadLaws.{Read, unset-none, loaded-held, ends-refused, lawful, in-range, ends-outside, ends-disabled, enabled-in-run, ends-outranked, ends-marked, ends-committed, ends-cancelled}
@@ -97,15 +97,18 @@ able : (c : tie.Else3) → bit (kept (c .before .before) .before .read .result .
 able c = sym (c .before .bit .ensures) ∙ not-no _ (c .if3 .left)
 
 -- past 18
-top : (c : tie.Else4) → bit (kept (c .before .before .before .before) .before .read .result .eligible) (tried (kept (c .before .before .before .before) .before)) ≡ true
-top c = sym (c .before .bit2 .ensures) ∙ not-no _ (c .if4 .left)
+top : (c : tie.Else4)
+    → let k = kept (c .before .before .before .before) in
+    let p = begun (k .before .before) .args .plan .now in
+    some-below (interactions p) (λ j. below p (tried (k .before)) j && bit (k .before .read .result .free) j) ≡ false
+top c = sym (c .before .is-outranked .ensures) ∙ c .if4 .left
 
 -- past 19
 abbrev ruled : tie.Else5 → tie.Else2
 ruled c = c .before .before .before .before .before .before
 
 unmarked : (c : tie.Else5) → bit (run (kept (ruled c) .before .before) .marks) (tried (kept (ruled c) .before)) ≡ false
-unmarked c = sym (c .before .bit3 .ensures) ∙ c .if5 .left
+unmarked c = sym (c .before .bit2 .ensures) ∙ c .if5 .left
 
 bit-requires : tie.Need-bit-requires
 bit-requires c κs = place c
@@ -120,8 +123,8 @@ returns-3 c =
     let k = kept n in
     parts (ends-disabled (read (k .before)) (k .if1 .left) (tried (k .before)) (inside n) (sym (c .before .bit .ensures) ∙ not-yes _ (c .if3 .taken)))
 
-bit-requires-2 : tie.Need-bit-requires-2
-bit-requires-2 c κs = place (c .before .before)
+is-outranked-requires : tie.Need-is-outranked-requires
+is-outranked-requires c κs = let n = c .before .before in (past (kept n) .plan-accepted, inside n)
 
 same-length-4 : tie.Need-same-length-4
 same-length-4 c = search needs
@@ -132,10 +135,10 @@ returns-4 c =
     let a = c .before .before in
     let n = a .before .before in
     let k = kept n in
-    parts (ends-outranked (read (k .before)) (k .if1 .left) (tried (k .before)) (inside n) (able a) (sym (c .before .bit2 .ensures) ∙ not-yes _ (c .if4 .taken)))
+    parts (ends-outranked (read (k .before)) (k .if1 .left) (tried (k .before)) (inside n) (able a) (sym (c .before .is-outranked .ensures) ∙ c .if4 .taken))
 
-bit-requires-3 : tie.Need-bit-requires-3
-bit-requires-3 c κs = place (c .before .before .before .before)
+bit-requires-2 : tie.Need-bit-requires-2
+bit-requires-2 c κs = place (c .before .before .before .before)
 
 same-length-5 : tie.Need-same-length-5
 same-length-5 c = search needs
@@ -147,7 +150,7 @@ returns-5 c =
     let a = t .before .before in
     let n = a .before .before in
     let k = kept n in
-    parts (ends-marked (read (k .before)) (k .if1 .left) (tried (k .before)) (inside n) (able a) (top t) (sym (c .before .bit3 .ensures) ∙ c .if5 .taken))
+    parts (ends-marked (read (k .before)) (k .if1 .left) (tried (k .before)) (inside n) (able a) (top t) (sym (c .before .bit2 .ensures) ∙ c .if5 .taken))
 
 abbrev free : tie.After-after → tie.Else5
 free c = c .before .before .before .before .before
@@ -176,8 +179,8 @@ store-requires c κs =
     let w = past (kept (ruled (free x))) in
     (w .plan-accepted, (w .long, x .after .ensures .0))
 
-cast-t40 : tie.Need-cast-t40
-cast-t40 c = omega (arith, place (ruled (free (c .before .before .before .before .before .before .before .before .before))))
+cast-t41 : tie.Need-cast-t41
+cast-t41 c = omega (arith, place (ruled (free (c .before .before .before .before .before .before .before .before .before))))
 
 same-length-6 : tie.Need-same-length-6
 same-length-6 c = search needs
@@ -202,8 +205,8 @@ with-bit-requires c κs = place (ruled (free (c .before .before .before)))
 put-marks-requires : tie.Need-put-marks-requires
 put-marks-requires c κs = past (kept (ruled (free (c .before .before .before .before)))) .long
 
-cast-t45 : tie.Need-cast-t45
-cast-t45 c = omega (arith, place (ruled (free (c .before .before .before .before .before .before .before))))
+cast-t46 : tie.Need-cast-t46
+cast-t46 c = omega (arith, place (ruled (free (c .before .before .before .before .before .before .before))))
 
 same-length-7 : tie.Need-same-length-7
 same-length-7 c = search needs
@@ -238,20 +241,20 @@ try-on-spec =
     bit-requires
     same-length-3
     returns-3
-    bit-requires-2
+    is-outranked-requires
     same-length-4
     returns-4
-    bit-requires-3
+    bit-requires-2
     same-length-5
     returns-5
     after-requires
     good-requires
     store-requires
-    cast-t40
+    cast-t41
     same-length-6
     returns-6
     with-bit-requires
     put-marks-requires
-    cast-t45
+    cast-t46
     same-length-7
     returns-7)

@@ -1,15 +1,12 @@
-use mathlib.Core.Path.{_≡_, refl, sym, ap₂, _∙_}
-use mathlib.Core.Bool.{true, not}
-use Prim.Native.Nat.{ℕ, _<_, _≤_, _^_}
-use native.Mathlib.Omega.{arith}
-use lib.Dec.{leb}
+use mathlib.Core.Path.{_≡_, sym, _∙_}
+use mathlib.Core.Bool.{true}
+use Prim.Native.Nat.{ℕ, _<_, _^_}
 use Rattle.semantics.specs.Bytes.{implies, every, bit}
 use Rattle.semantics.specs.Plan.{maxInteractions, interactions}
-use Rattle.semantics.specs.Move.{Configuration}
+use Rattle.semantics.specs.Move.{Configuration, enabled}
 use Rattle.semantics.proofs.Basics.{not-yes, not-no}
 use Rattle.lane.specs.Runs.{lent}
-use Rattle.layout.proofs.Sections.{laid-accepted}
-use Rattle.engine.proofs.MarkLaws.{bit-below, no-marks, marks-outside, marked-enabled, marks-searched}
+use Rattle.engine.proofs.MarkLaws.{bit-below, no-marks, marks-outside, marks-outranked, marked-enabled, marks-judged}
 use borrow.Author.Needs.{needs}
 use Rattle.engine.proofs.reading.marks_ok.Statement.{statement}
 use Rattle.engine.proofs.reading.marks_ok.Tie as tie
@@ -21,13 +18,18 @@ word s = search needs
 abbrev held : tie.Start → Configuration
 held s = lent (s .args .locations .now) (s .args .ports .now) (s .args .values .now) (s .args .oracles)
 
--- all marks are on eligible interactions
-within : (c : tie.Else1) → every maxInteractions (λ j. implies (bit (c .before .before .before .args .marks) j) (bit (c .before .before .before .args .eligible) j)) ≡ true
+-- all marks are on enabled interactions
+within : (c : tie.Else1) → every maxInteractions (λ j. implies (bit (c .before .before .before .args .marks) j) (bit (c .before .before .before .args .enabled) j)) ≡ true
 within c = sym (c .before .inside .ensures) ∙ not-no _ (c .if1 .left)
 
--- where the search begins
-abbrev searched : tie.After-numbers2 → tie.Else1
-searched c = c .before .before .before .before .before .before .before
+-- each is one of the plan's, and enabled
+marked : (c : tie.Else1) (j : ℕ) → bit (c .before .before .before .args .marks) j ≡ true
+    → let s = c .before .before .before in
+    (j < interactions (s .args .plan .now)) × (enabled (s .args .plan .now) (held s .state) j ≡ true)
+marked c j t =
+    let s = c .before .before .before in
+    let m = s .args .marks in
+    marked-enabled (s .args .plan .now) (held s) m (s .args .enabled) (s .args .free) (s .pre .1 .1 .0 .1) (s .pre .1 .1 .1) (within c) j (bit-below m j (word s) t) t
 
 inside-requires : tie.Need-inside-requires
 inside-requires c κs = search needs
@@ -35,42 +37,39 @@ inside-requires c κs = search needs
 returns : tie.Need-returns
 returns c =
     let s = c .before .before .before in
-    sym (marks-outside (s .args .plan .now) (held s) (s .args .marks) (s .args .eligible) (s .pre .1 .1 .1) (sym (c .before .inside .ensures) ∙ not-yes _ (c .if1 .taken)))
+    sym (marks-outside (s .args .plan .now) (held s) (s .args .marks) (s .args .enabled) (s .args .free) (s .pre .1 .1 .0 .1) (s .pre .1 .1 .1) (sym (c .before .inside .ensures) ∙ not-yes _ (c .if1 .taken)))
 
 returns-2 : tie.Need-returns-2
 returns-2 c =
     let s = c .before .before .before .before in
     sym (no-marks (s .args .plan .now) (held s) (s .args .marks) (c .if2 .taken))
 
-lowest-good-requires : tie.Need-lowest-good-requires
-lowest-good-requires c κs =
-    let e = searched c in
-    let s = e .before .before .before in
-    let m = s .args .marks in (
-      s .pre .0,
-      (
-        (s .pre .1 .0 .0, s .pre .1 .1 .0),
-        (
-          (s .pre .1 .0 .1, refl),
-          λ j t. marked-enabled (s .args .plan .now) (held s) m (s .args .eligible) (s .pre .1 .1 .1) (within e) j (bit-below m j (word s) t) t,
-        ),
-      ),
-    )
-
-interactions-requires : tie.Need-interactions-requires
-interactions-requires c κs = laid-accepted _ (searched (c .before) .before .before .before .pre .0) .long
+none-above-requires : tie.Need-none-above-requires
+none-above-requires c κs = let e = c .before in (e .before .before .before .pre .0, λ j t. marked e j t .0)
 
 returns-3 : tie.Need-returns-3
 returns-3 c =
-    let i = c .before in
-    let f = i .before in
-    let e = searched (f .before) in
+    let e = c .before .before .before in
     let s = e .before .before .before in
-    let p = s .args .plan .now in
-    ap₂ leb (i .interactions .ensures .0) (f .lowest-good .ensures .1 .0)
-    ∙ marks-searched p (held s) (s .args .marks) (s .args .eligible) (s .pre .1 .1 .1) (within e) (laid-accepted p (s .pre .0) .interactions≤)
+    sym (marks-outranked (s .args .plan .now) (held s) (s .args .marks) (s .args .enabled) (s .args .free) (s .pre .1 .1 .0 .1) (s .pre .1 .1 .1)
+    (sym (c .before .none-above .ensures) ∙ not-yes _ (c .if3 .taken)))
+
+all-bad-requires : tie.Need-all-bad-requires
+all-bad-requires c κs =
+    let e = c .before .before .before in
+    let s = e .before .before .before in
+    (s .pre .0, ((s .pre .1 .0 .0, s .pre .1 .1 .0 .0), (s .pre .1 .0 .1, marked e)))
+
+returns-4 : tie.Need-returns-4
+returns-4 c =
+    let x = c .before in
+    let e = x .before .before .before in
+    let s = e .before .before .before in
+    c .all-bad .ensures
+    ∙ marks-judged (s .args .plan .now) (held s) (s .args .marks) (s .args .enabled) (s .args .free) (s .pre .1 .1 .0 .1) (s .pre .1 .1 .1) (within e)
+    (sym (x .before .none-above .ensures) ∙ not-no _ (x .if3 .left))
 
 pub marks-ok-spec : {M : Type 1} → statement M
 marks-ok-spec =
     tie.close
-    (tie.spec inside-requires returns returns-2 lowest-good-requires interactions-requires returns-3)
+    (tie.spec inside-requires returns returns-2 none-above-requires returns-3 all-bad-requires returns-4)

@@ -1,18 +1,17 @@
 use mathlib.Core.Path.{_≡_, refl, sym, ap, _∙_}
-use mathlib.Core.Bool.{true}
+use mathlib.Core.Bool.{true, not, _&&_}
 use lib.ListN.{length}
-use Rattle.semantics.specs.Bytes.{mask}
+use Rattle.semantics.specs.Bytes.{bit, mask}
 use Rattle.semantics.specs.Plan.{interactions}
 use Rattle.semantics.specs.Code.{State, site}
 use Rattle.semantics.specs.Rules.{planRefusal}
-use Rattle.semantics.specs.Move.{Configuration, eligible}
+use Rattle.semantics.specs.Move.{Configuration, enabled}
 use Rattle.semantics.specs.Image.{imageLength, marksOf, configurationOf, headMatches, configurationOk, marksOk, imageRules}
 use Rattle.semantics.proofs.Basics.{not-yes, not-no, eqb-false}
 use Rattle.semantics.proofs.LawfulImage.{configured}
 use Rattle.layout.proofs.Sections.{laid-accepted}
 use Rattle.lane.specs.Runs.{lent}
-use Rattle.choices.specs.Choices.{standing}
-use Rattle.choices.proofs.MaskLaws.{standing-eligible}
+use Rattle.engine.proofs.MarkLaws.{open-masked}
 use Rattle.engine.proofs.Refusals.{plan-refused, image-12, image-13, image-14, image-kept}
 use borrow.Author.Needs.{needs}
 use Rattle.engine.proofs.reading.read.Statement.{statement}
@@ -35,7 +34,7 @@ start-2 c = start-1 (c .before .before)
 abbrev start-3 : tie.Else3 → tie.Start
 start-3 c = start-2 (c .before .before)
 
-abbrev masked : tie.After-eligible-mask → tie.Else3
+abbrev masked : tie.After-without → tie.Else3
 masked c = c .before .before .before .before .before
 
 long : (s : tie.Start) → length (s .args .image .now) ≡ imageLength
@@ -58,11 +57,13 @@ fits c = sym (c .before .configuration-ok .ensures) ∙ not-no _ (c .if3 .left)
 fits-image : (c : tie.Else3) → configurationOk (start-3 c .args .plan .now) (configurationOf (start-3 c .args .image .now)) ≡ true
 fits-image c = ap (configurationOk (start-3 c .args .plan .now)) (sym (held-is (start-3 c))) ∙ fits c
 
-eligible-are : (c : tie.After-eligible-mask)
-    → c .eligible-mask .result ≡ mask (interactions (start-3 (masked c) .args .plan .now)) (eligible (start-3 (masked c) .args .plan .now) (state (start-3 (masked c))))
-eligible-are c =
+-- the enabled interactions that are not marked
+free-are : (c : tie.After-without)
+    → let s = start-3 (masked c) in
+    c .without .result ≡ mask (interactions (s .args .plan .now)) (λ j. enabled (s .args .plan .now) (state s) j && not (bit (s .args .marks) j))
+free-are c =
     let s = start-3 (masked c) in
-    c .eligible-mask .ensures ∙ ap (standing (s .args .plan .now)) (c .before .enabled-mask .ensures .0) ∙ standing-eligible (s .args .plan .now) (state s)
+    open-masked (s .args .plan .now) (state s) (s .args .marks) _ (c .without .result) (c .before .enabled-mask .ensures .0) (c .without .ensures .0) (c .without .ensures .1)
 
 -- whether the marks are kept, said of the image's
 marks-are : (c : tie.After-marks-ok)
@@ -127,8 +128,8 @@ choose-requires c κs =
 enabled-mask-requires : tie.Need-enabled-mask-requires
 enabled-mask-requires c κs = (accepted (c .before .before .before .before .before .before .before), c .before .choose .ensures)
 
-eligible-mask-requires : tie.Need-eligible-mask-requires
-eligible-mask-requires c κs = (accepted (c .before .before .before .before .before .before .before .before), c .enabled-mask .ensures .1)
+without-requires : tie.Need-without-requires
+without-requires c κs = search needs
 
 marks-ok-requires : tie.Need-marks-ok-requires
 marks-ok-requires c κs =
@@ -137,7 +138,7 @@ marks-ok-requires c κs =
       accepted (k .before .before .before .before),
       (
         (c .before .before .before .before .choose .ensures, s .pre .1 .0 .1),
-        (configured (s .args .plan .now) (held s) (fits k) .in-range, eligible-are (c .before)),
+        ((configured (s .args .plan .now) (held s) (fits k) .in-range, c .before .before .enabled-mask .ensures .0), free-are (c .before)),
       ),
     )
 
@@ -165,7 +166,7 @@ returns-5 c =
       sym (image-kept (s .args .plan .now) (s .args .image .now) (accepted (m .before .before)) (long s) (matches m) (fits-image k) (sym (marks-are (c .before)) ∙ not-no _ (c .if4 .left))),
       (
         λ z. x .before .before .before .choose .ensures,
-        λ z. record { enabled-is = x .before .enabled-mask .ensures .0; eligible-is = eligible-are x },
+        λ z. record { enabled-is = x .before .enabled-mask .ensures .0; free-is = free-are x },
       ),
     )
 
@@ -183,7 +184,7 @@ read-spec =
     returns-3
     choose-requires
     enabled-mask-requires
-    eligible-mask-requires
+    without-requires
     marks-ok-requires
     turned-away-requires-4
     returns-4
