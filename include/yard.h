@@ -6,7 +6,7 @@
  * a refusal is an answer like any other and changes no byte. A lawful plan has at most 16128 bytes.
  *
  * The caller owes that each pointer is not null and valid for its length, that the image does not overlap
- * the plan, and that nobody else writes either during the call.
+ * the plan, and that nobody else writes plan, image or log during the call.
  */
 #ifndef YARD_H
 #define YARD_H
@@ -39,7 +39,8 @@ enum yard_kind {
     YARD_CANCELLED = 2, /* number: the interaction; its mark is set and no other byte differs */
     YARD_STALLED = 3,   /* number 0: no move is enabled; no byte changes */
     YARD_PENNED = 4,    /* number 0: moves are enabled, and none of them ends good; every enabled one is marked */
-    YARD_REFUSED = 5    /* number: one of enum yard_refusal; no byte changes */
+    YARD_REFUSED = 5,   /* number: one of enum yard_refusal; no byte changes */
+    YARD_WRONG = 6      /* number: why an entry of a log is wrong, 16, 17 or 18, or 0 where the move ends bad; yard_log_index says which entry */
 };
 
 /* Why a call was refused. The first that applies, in the order of this list, is the answer. */
@@ -59,10 +60,11 @@ enum yard_refusal {
     YARD_OTHER_PLAN = 12,     /* image: bytes 0-7 or 12-15 do not match form 1 and the plan */
     YARD_BAD_STATE = 13,      /* image: an oracle state, location or last port out of range or bad, or an unused entry filled */
     YARD_FALSE_MARK = 14,     /* image: a mark on a move that is not enabled or would end good, or below an enabled one without a mark */
-    YARD_BAD_START = 15,      /* start: the starting state is bad */
-    YARD_NO_SUCH_MOVE = 16,   /* try: the number is not an interaction of the plan */
-    YARD_NOT_ENABLED = 17,    /* try: the move is not enabled */
-    YARD_OUTRANKED = 18,      /* try: an enabled move that is not marked lies above it */
+    YARD_ODD_LOG = 21,        /* log: an odd number of bytes */
+    YARD_BAD_START = 15,      /* start, log: the starting state is bad */
+    YARD_NO_SUCH_MOVE = 16,   /* try, entry of a log: the number is not an interaction of the plan */
+    YARD_NOT_ENABLED = 17,    /* try, entry of a log: the move is not enabled */
+    YARD_OUTRANKED = 18,      /* try: an enabled move that is not marked lies above it; entry of a log: an enabled move that ends good does */
     YARD_MARKED = 19          /* try: it was tried in this state and ends bad */
 };
 
@@ -87,6 +89,14 @@ uint32_t yard_try(const uint8_t *plan, size_t plan_len, uint8_t *image, size_t i
 /* Settles on the lowest-numbered enabled move that ends good and has no enabled move above it that does: committed, stalled, penned, or
  * refused with 1 to 14 or 20. The marks make no difference to it. */
 uint32_t yard_settle(const uint8_t *plan, size_t plan_len, uint8_t *image, size_t image_len);
+
+/* Whether a log is a run from the starting state: moves of 16 bits each, lowest byte first, each of them enabled and ending good after those
+ * before it, with no enabled move above it that ends good. Accepted (an empty log too, whose pointer is not null either), wrong, or refused
+ * with 1 to 10, 15, 20 or 21. */
+uint32_t yard_log(const uint8_t *plan, size_t plan_len, const uint8_t *log, size_t log_len);
+
+/* The index, from 0, of the first wrong entry; 0 where yard_log does not answer wrong. */
+uint64_t yard_log_index(const uint8_t *plan, size_t plan_len, const uint8_t *log, size_t log_len);
 
 #ifdef __cplusplus
 }

@@ -4,7 +4,7 @@
 #include <string.h>
 
 #define ANSWER(kind, number) ((kind) * 65536u + (number))
-enum { ACCEPTED, COMMITTED, CANCELLED, STALLED, PENNED, REFUSED };
+enum { ACCEPTED, COMMITTED, CANCELLED, STALLED, PENNED, REFUSED, WRONG };
 
 static inline unsigned r16(const uint8_t *p) { uint16_t v; memcpy(&v, p, 2); return v; }
 static inline uint32_t r32(const uint8_t *p) { uint32_t v; memcpy(&v, p, 4); return v; }
@@ -312,18 +312,32 @@ static inline int good(const Plan *x, States q) {
   return x->oracle[x->row * (q & 255)] != 0 && (!ADDED(x) || added_good(x, q));
 }
 
-/* The lane after enabled move i, and the oracles' states after its event. */
-static States fire(const Plan *x, const Lane *old, States q, const Moves *m, unsigned i, Lane *new) {
+/* Makes enabled move i on the lane; the oracles' states after its event. */
+ALWAYS_INLINE States make(const Plan *x, Lane *lane, States q, const Moves *m, unsigned i) {
   const uint8_t *r = x->inter + 24 * i;
-  *new = *old;
-  if (r16(r + 22)) run(x, r + 20, new);
+  if (r16(r + 22)) run(x, r + 20, lane);
   EACH_PART(c, r, {
     const uint8_t *t = x->trans + 12 * (m->chosen[c][r[c]] - 1u);
-    if (r16(t + 10)) run(x, t + 8, new);
-    new->loc[c] = t[3];
-    new->last[c] = r[c];
+    if (r16(t + 10)) run(x, t + 8, lane);
+    lane->loc[c] = t[3];
+    lane->last[c] = r[c];
   });
-  return judged(x, q, new);
+  return judged(x, q, lane);
+}
+
+/* The same on a copy. */
+static States fire(const Plan *x, const Lane *old, States q, const Moves *m, unsigned i, Lane *new) {
+  *new = *old;
+  return make(x, new, q, m, i);
+}
+
+/* The starting lane, and the oracles' states after its event. */
+static inline States begin(const Plan *x, Lane *lane) {
+  memset(lane, 0, sizeof *lane);
+  memset(lane->last, 255, 16);
+  for (unsigned c = 0; c < x->C; c++) lane->loc[c] = x->comp[4 * c + 1];
+  for (unsigned v = 0; v < x->V; v++) memcpy(&lane->val[v], x->var + 8 * v + 4, 4);
+  return judged(x, x->first, lane);
 }
 
 /* ---- images ---- */
@@ -413,11 +427,7 @@ uint32_t base_start(const uint8_t *plan, size_t plan_len, uint8_t *image, size_t
   unsigned n = check(&x, plan, plan_len);
   if (n) return ANSWER(REFUSED, n);
   if (image_len != 312) return ANSWER(REFUSED, 11);
-  memset(&lane, 0, sizeof lane);
-  memset(lane.last, 255, 16);
-  for (unsigned c = 0; c < x.C; c++) lane.loc[c] = x.comp[4 * c + 1];
-  for (unsigned v = 0; v < x.V; v++) memcpy(&lane.val[v], x.var + 8 * v + 4, 4);
-  States q = judged(&x, x.first, &lane);
+  States q = begin(&x, &lane);
   if (!good(&x, q)) return ANSWER(REFUSED, 15);
   put_head(&x, image);
   commit(image, q, &lane);
@@ -492,4 +502,111 @@ uint32_t base_settle(const uint8_t *plan, size_t plan_len, uint8_t *image, size_
   if (!s.moves.enabled) return ANSWER(STALLED, 0);
   memcpy(image + 16, &s.moves.enabled, 8);
   return ANSWER(PENNED, 0);
+}
+
+/* ---- logs ---- */
+
+/* A walk along a log. Each entry is made on the lane itself; those above it are judged on a copy. */
+typedef struct {
+  Plan plan;
+  Lane lane;
+  States oracles;
+  Moves moves;                           /* only what ready chose counts */
+  uint16_t first[16][16][16], next[256]; /* by component, location and port the lowest transition, plus 1; after each the next such one */
+  uint64_t fits[16][16];                 /* by component and location the interactions that have a transition for it, or do without it */
+} Walk;
+
+/* The interactions that a component takes part in, by its ports, and those without it. */
+static inline void sort_interactions(const Plan *x, uint64_t with[16][16], uint64_t *without) {
+  uint64_t all = x->I == 64 ? ~0ull : (1ull << x->I) - 1;
+  for (unsigned c = 0; c < x->C; c++) without[c] = all;
+  memset(with, 0, x->C * sizeof with[0]);
+  for (unsigned i = 0; i < x->I; i++) {
+    const uint8_t *r = x->inter + 24 * i;
+    EACH_PART(c, r, { with[c][r[c]] |= 1ull << i; without[c] &= ~(1ull << i); });
+  }
+}
+
+static inline void index_transitions(Walk *s) {
+  uint64_t with[16][16], without[16];
+  sort_interactions(&s->plan, with, without);
+  memset(s->first, 0, s->plan.C * sizeof s->first[0]);
+  for (unsigned c = 0; c < s->plan.C; c++) for (unsigned l = 0; l < 16; l++) s->fits[c][l] = without[c];
+  for (unsigned t = s->plan.T; t-- > 0;) {
+    const uint8_t *r = s->plan.trans + 12 * t;
+    uint16_t *slot = &s->first[r[0]][r[1]][r[2]];
+    s->next[t] = *slot;
+    *slot = (uint16_t)(t + 1);
+    s->fits[r[0]][r[1]] |= with[r[0]][r[2]];
+  }
+}
+
+/* The interactions that are enabled but for guards. */
+static inline uint64_t fitting(const Walk *s) {
+  uint64_t set = ~0ull;
+  for (unsigned c = 0; c < s->plan.C; c++) set &= s->fits[c][s->lane.loc[c]];
+  return set;
+}
+
+/* Whether interaction i is enabled; chooses the transitions of its components. */
+static inline int ready(Walk *s, unsigned i) {
+  const Plan *x = &s->plan;
+  const uint8_t *r = x->inter + 24 * i;
+  EACH_PART(c, r, {
+    unsigned t = s->first[c][s->lane.loc[c]][r[c]];
+    while (t && !holds(x, x->trans + 12 * t - 8, &s->lane)) t = s->next[t - 1];
+    if (!t) return 0;
+    s->moves.chosen[c][r[c]] = (uint16_t)t;
+  });
+  return holds(x, r + 16, &s->lane);
+}
+
+/* Whether one of these interactions is enabled and ends good. */
+static __attribute__((noinline)) int some_good(Walk *s, uint64_t set) {
+  Lane new;
+  for (; set; set &= set - 1) {
+    unsigned i = lowest(set);
+    if (ready(s, i) && good(&s->plan, fire(&s->plan, &s->lane, s->oracles, &s->moves, i, &new))) return 1;
+  }
+  return 0;
+}
+
+enum { BAD = 0, RIGHT = 1 };
+
+/* Makes an entry, or says why it is wrong. */
+static inline unsigned entered(Walk *s, unsigned i) {
+  if (i >= s->plan.I) return 16;
+  if (!ready(s, i)) return 17;
+  uint64_t up = above(&s->plan, i);
+  if (up && some_good(s, up & fitting(s))) return 18;
+  s->oracles = make(&s->plan, &s->lane, s->oracles, &s->moves, i);
+  return good(&s->plan, s->oracles) ? RIGHT : BAD;
+}
+
+/* The answer; *at: the index of the first wrong entry, 0 where there is none. */
+static inline uint32_t walk(const uint8_t *plan, size_t plan_len, const uint8_t *log, size_t log_len, uint64_t *at) {
+  Walk s;
+  *at = 0;
+  unsigned n = check(&s.plan, plan, plan_len);
+  if (n) return ANSWER(REFUSED, n);
+  if (log_len % 2) return ANSWER(REFUSED, 21);
+  s.oracles = begin(&s.plan, &s.lane);
+  if (!good(&s.plan, s.oracles)) return ANSWER(REFUSED, 15);
+  index_transitions(&s);
+  for (size_t k = 0; k < log_len / 2; k++) {
+    unsigned why = entered(&s, r16(log + 2 * k));
+    if (why != RIGHT) { *at = k; return ANSWER(WRONG, why); }
+  }
+  return ANSWER(ACCEPTED, 0);
+}
+
+uint32_t base_log(const uint8_t *plan, size_t plan_len, const uint8_t *log, size_t log_len) {
+  uint64_t at;
+  return walk(plan, plan_len, log, log_len, &at);
+}
+
+uint64_t base_log_index(const uint8_t *plan, size_t plan_len, const uint8_t *log, size_t log_len) {
+  uint64_t at;
+  walk(plan, plan_len, log, log_len, &at);
+  return at;
 }

@@ -1,11 +1,12 @@
 /* The most stack that each call of libyard.a takes, in bytes below the caller's stack pointer: the calls are made on a painted stack, over
-   walks by random tries through the plans, marks included.
+   walks by random tries through the plans, marks included. The log is that of the walk's moves with the next try behind, right or wrong.
    measure-stack PLAN... */
 #define _GNU_SOURCE
 #include "scenes.h"
 #include <ucontext.h>
 
 enum { ROOM = 1 << 16, PAINT = 0xA5, STEPS = 300 };
+enum { LOG = COLUMNS, LOG_INDEX, CALLS_MADE };
 
 static const Engine yard = ENGINE(yard);
 static _Alignas(16) uint8_t room[ROOM];
@@ -14,10 +15,16 @@ static uint8_t *top; /* the stack pointer at the call */
 static const Plan *plan;
 static const Job *job;
 static uint8_t image[IMAGE];
+static uint8_t moves[2 * STEPS]; /* those of the walk, as a log */
+static size_t moves_len;
 
 static void call(void) {
   __asm__ volatile("mov %%rsp, %0" : "=r"(top));
-  repeat(&yard, plan, job, image, 1);
+  switch ((int)job->column) {
+  case LOG: yard_log(plan->bytes, plan->len, moves, moves_len); break;
+  case LOG_INDEX: yard_log_index(plan->bytes, plan->len, moves, moves_len); break;
+  default: repeat(&yard, plan, job, image, 1);
+  }
 }
 
 /* The bytes that one call takes. */
@@ -35,15 +42,27 @@ static size_t taken(const Plan *p, const Job *j) {
   return (size_t)(top - low);
 }
 
-/* Raises most by the calls of every column on an image, the try by this number. */
+static void add_move(uint32_t number) {
+  moves[moves_len++] = (uint8_t)number;
+  moves[moves_len++] = 0;
+}
+
+/* Raises most by every call on an image, the try by this number. */
 static void measure_at(const Plan *p, const uint8_t *b, uint32_t number, size_t *most) {
   Job j = {.number = number};
   memcpy(j.image, b, IMAGE);
-  for (int c = 0; c < COLUMNS; c++) {
-    j.column = c;
+  add_move(number);
+  for (int c = 0; c < CALLS_MADE; c++) {
+    j.column = (enum column)c;
     size_t bytes = taken(p, &j);
     if (bytes > most[c]) most[c] = bytes;
   }
+  moves_len -= 2;
+}
+
+static void begin(const Plan *p, uint8_t *b) {
+  base_start(p->bytes, p->len, b, IMAGE);
+  moves_len = 0;
 }
 
 /* Walks from the start; where nothing is on offer, settling goes on, or the walk begins anew. Gives how many images had marks. */
@@ -51,27 +70,28 @@ static unsigned walk(const Plan *p, size_t *most) {
   static const uint8_t none[8];
   uint8_t b[IMAGE];
   unsigned marked = 0;
-  base_start(p->bytes, p->len, b, IMAGE);
+  begin(p, b);
   for (int step = 0; step < STEPS; step++) {
     uint64_t offered = base_offered_bits(p->bytes, p->len, b, IMAGE);
     uint32_t number = offered ? some_bit(offered) : (uint32_t)step % 64;
     measure_at(p, b, number, most);
     marked += memcmp(b + 16, none, 8) != 0;
-    if (offered) base_try(p->bytes, p->len, b, IMAGE, number);
-    else if (base_settle(p->bytes, p->len, b, IMAGE) >> 16 != 1) base_start(p->bytes, p->len, b, IMAGE);
+    uint32_t answer = offered ? base_try(p->bytes, p->len, b, IMAGE, number) : base_settle(p->bytes, p->len, b, IMAGE);
+    if (answer >> 16 == 1) add_move(answer & 63);
+    else if (!offered) begin(p, b);
   }
   return marked;
 }
 
 int main(int argc, char **argv) {
-  size_t most[COLUMNS] = {0}, worst = 0;
+  size_t most[CALLS_MADE] = {0}, worst = 0;
   unsigned marked = 0;
   for (int k = 1; k < argc; k++) {
     load(argv[k], &plans[0]);
     marked += walk(&plans[0], most);
   }
-  for (int c = 0; c < COLUMNS; c++) {
-    printf("%s: %zu bytes\n", columns[c], most[c]);
+  for (int c = 0; c < CALLS_MADE; c++) {
+    printf("%s: %zu bytes\n", c == LOG ? "log" : c == LOG_INDEX ? "log index" : columns[c], most[c]);
     if (most[c] > worst) worst = most[c];
   }
   printf("at most %zu bytes, over %d plans and %d images, %u of them with marks\n", worst, argc - 1, (argc - 1) * STEPS, marked);

@@ -4,7 +4,16 @@ use std::env;
 use std::path::{Path, PathBuf};
 use std::process::Command;
 
-const CALLS: [&str; 6] = ["check", "start", "offered", "offered_bits", "try", "settle"];
+const CALLS: [&str; 8] = [
+    "check",
+    "start",
+    "offered",
+    "offered_bits",
+    "try",
+    "settle",
+    "log",
+    "log_index",
+];
 
 fn main() {
     let bench = Path::new(&env::var("CARGO_MANIFEST_DIR").unwrap()).join("../bench");

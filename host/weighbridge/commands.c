@@ -17,6 +17,19 @@ static void do_offered(struct bridge *b, const char *unused)
         report_answer(answer, "accepted");
 }
 
+/* Reports a try or a settling, and keeps the move that it made. */
+static void report_move(struct bridge *b, uint32_t answer)
+{
+    report_answer(answer, "accepted");
+    if (YARD_KIND(answer) != YARD_COMMITTED)
+        return;
+    b->has_moves = b->has_moves && b->moves_len + 2 <= sizeof b->moves;
+    if (!b->has_moves)
+        return;
+    b->moves[b->moves_len++] = (uint8_t)YARD_NUMBER(answer);
+    b->moves[b->moves_len++] = (uint8_t)(YARD_NUMBER(answer) >> 8);
+}
+
 /* A decimal number of 32 bits, with nothing before or after it. */
 static bool parse_number(const char *text, uint32_t *number)
 {
@@ -31,7 +44,7 @@ static void do_try(struct bridge *b, const char *text)
 {
     uint32_t move;
     if (parse_number(text, &move))
-        report_answer(yard_try(b->plan, b->plan_len, b->image, sizeof b->image, move), "accepted");
+        report_move(b, yard_try(b->plan, b->plan_len, b->image, sizeof b->image, move));
     else
         puts("try needs a move number from 0 to 4294967295");
 }
@@ -39,14 +52,17 @@ static void do_try(struct bridge *b, const char *text)
 static void do_settle(struct bridge *b, const char *unused)
 {
     (void)unused;
-    report_answer(yard_settle(b->plan, b->plan_len, b->image, sizeof b->image), "accepted");
+    report_move(b, yard_settle(b->plan, b->plan_len, b->image, sizeof b->image));
 }
 
 static void do_start(struct bridge *b, const char *unused)
 {
     (void)unused;
     uint32_t answer = yard_start(b->plan, b->plan_len, b->image, sizeof b->image);
-    b->has_lane |= YARD_KIND(answer) == YARD_ACCEPTED;
+    if (YARD_KIND(answer) == YARD_ACCEPTED) {
+        b->has_lane = b->has_moves = true;
+        b->moves_len = 0;
+    }
     report_answer(answer, "lane started");
 }
 
@@ -102,8 +118,34 @@ static void do_load(struct bridge *b, const char *path)
     if (YARD_KIND(answer) == YARD_ACCEPTED) {
         memcpy(b->image, image, sizeof b->image);
         b->has_lane = true;
+        b->has_moves = false;
     }
     report_answer(answer, "lane loaded");
+}
+
+/* The moves of a lane from its start on, whoever made them. */
+static void do_log(struct bridge *b, const char *path)
+{
+    static uint8_t log[LOG_BYTES + 1];
+    size_t len;
+    if (!file_read(path, log, sizeof log, &len))
+        report_file_fault("read", path);
+    else if (len > LOG_BYTES)
+        printf("cannot take %s: it has more than %d bytes\n", path, LOG_BYTES);
+    else
+        report_log(yard_log(b->plan, b->plan_len, log, len), yard_log_index(b->plan, b->plan_len, log, len));
+}
+
+static void do_moves(struct bridge *b, const char *path)
+{
+    if (!lane_there(b))
+        return;
+    if (!b->has_moves)
+        puts("the moves from the start on are not known: the lane was loaded, the plan changed, or there were too many");
+    else if (file_write(path, b->moves, b->moves_len))
+        puts("moves saved");
+    else
+        report_file_fault("write", path);
 }
 
 /* A refused plan is in use all the same: moves must not go on under the plan that it was to replace. */
@@ -117,6 +159,7 @@ static void do_plan(struct bridge *b, const char *path)
     }
     memcpy(b->plan, plan, len);
     b->plan_len = len;
+    b->has_moves = false;
     report_answer(yard_check(b->plan, b->plan_len), "plan accepted");
 }
 
@@ -140,6 +183,8 @@ static const struct command {
     {"save", "a file name", do_save},
     {"load", "a file name", do_load},
     {"plan", "a file name", do_plan},
+    {"log", "a file name", do_log},
+    {"moves", "a file name", do_moves},
     {"start", NULL, do_start},
     {"quit", NULL, do_quit},
 };
@@ -182,7 +227,7 @@ void bridge_obey(struct bridge *b, char *line)
     char *rest = cut_rest(name);
     const struct command *command = find(name);
     if (command == NULL)
-        puts("unknown command: say offered, try, settle, weights, locations, marks, save, load, plan, start or quit");
+        puts("unknown command: say offered, try, settle, weights, locations, marks, save, load, plan, log, moves, start or quit");
     else if (command->needs == NULL && *rest != '\0')
         printf("%s stands alone on its line\n", command->name);
     else if (command->needs != NULL && *rest == '\0')

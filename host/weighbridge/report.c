@@ -32,6 +32,7 @@ static const char *const refusals[] = {
     "a move of higher rank is enabled and not marked (choose another)",
     "the move was tried in this state and ends badly (choose another)",
     "an added oracle of the plan is faulty (ask the planner)",
+    "the log has an odd number of bytes (ask whoever wrote it)",
 };
 
 static void report_refusal(uint32_t number)
@@ -65,6 +66,31 @@ void report_answer(uint32_t answer, const char *accepted)
     default:
         printf("answer %" PRIu32 " is unknown to this program (ask the programmer)\n", answer);
     }
+}
+
+/* Why an entry of a log is wrong. */
+static const char *cause(uint32_t number)
+{
+    switch (number) {
+    case 0:
+        return "bad, the move ends badly";
+    case YARD_NO_SUCH_MOVE:
+        return "16, the plan has no move of this number";
+    case YARD_NOT_ENABLED:
+        return "17, the move is not enabled there";
+    case YARD_OUTRANKED:
+        return "18, a move of higher rank is enabled there and ends well";
+    default:
+        return "for a cause that this program does not know (ask the programmer)";
+    }
+}
+
+void report_log(uint32_t answer, uint64_t index)
+{
+    if (YARD_KIND(answer) == YARD_WRONG)
+        printf("entry %" PRIu64 ": %s\n", index, cause(YARD_NUMBER(answer)));
+    else
+        report_answer(answer, "log accepted");
 }
 
 void report_moves(const char *what, uint64_t bits)

@@ -7,6 +7,9 @@
 /* An answer of the engine in words; `accepted` is what to say for an accepted call. */
 void report_answer(uint32_t answer, const char *accepted);
 
+/* The answer on a log in words, with the index of its first wrong entry. */
+void report_log(uint32_t answer, uint64_t index);
+
 /* The moves whose bits are set. */
 void report_moves(const char *what, uint64_t bits);
 

@@ -4,6 +4,7 @@ pub mod Disabling
 pub mod Enforcement
 pub mod Events
 pub mod KnownImage
+pub mod Logs
 pub mod Meet
 pub mod MonitorRules
 pub mod OracleRules

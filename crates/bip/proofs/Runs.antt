@@ -39,7 +39,7 @@ module _ (p : Plan) (ok : planRefusal p ≡ 0) where
       let (run, ends) = path-run (subst (Sound p) (sym same) h') rest in
       (all-of _ (lt-ltb _ _ l, (m, (subst (λ (x : Configuration). isRun p x is ≡ true) same run, tt))), ends ∙ ap (λ (x : Configuration). replay p x is) same)
 
-  run-path : (c : Configuration) (is : List ℕ) → Sound p c → isRun p c is ≡ true → Path (RankedCommit p) c is (replay p c is)
+  pub run-path : (c : Configuration) (is : List ℕ) → Sound p c → isRun p c is ≡ true → Path (RankedCommit p) c is (replay p c is)
   unfolding isRun replay
   run-path c [] h e = here
   run-path c (i ∷ is) h e =

@@ -1,7 +1,6 @@
 -- Building the mask of enabled interactions from the table of choices, and walking a mask for the numbers that pass a test, as those that are not outranked.
 use mathlib.Core.Path.{_≡_, refl, sym, ap, ap₂, _∙_}
 use Prim.Native.Nat.{ℕ, _+_, _*_, _^_, _≤_, _<_}
-use native.Mathlib.Nat.{le-trans}
 use native.Mathlib.Omega.{arith}
 use mathlib.Core.Bool.{Bool, true, false, not, _&&_, _||_, and-true, and-false}
 use mathlib.Core.List.{List, [], _∷_}
@@ -18,9 +17,7 @@ use Rattle.semantics.proofs.Ranking.{outranked-in}
 use Rattle.semantics.proofs.AcceptedPlan.{accepted-plan}
 use Rattle.words.proofs.BitLaws.{bit-above, lowest-set}
 use Rattle.layout.proofs.Sections.{laid-accepted}
-use Rattle.choices.specs.Choices.{chosenTable, portReady, stands, standing}
-use Rattle.choices.proofs.PlanLaws.{part-lt}
-use Rattle.choices.proofs.ChoiceLaws.{chosen-at}
+use Rattle.choices.specs.Choices.{ChosenIn, portReady, stands, standing}
 
 -- ---- a port, looked up in the table
 
@@ -36,14 +33,11 @@ ready-part p chosen i c q n x y f =
 
 -- ---- enabled, read from the table
 
-module _ (p : Plan) (s : State) (chosen : List ℕ) (i : ℕ) (h : planRefusal p ≡ 0) (l : i < interactions p) (t : chosen ≡ chosenTable p s) where
+module _ (p : Plan) (s : State) (chosen : List ℕ) (i : ℕ) (t : ChosenIn p s chosen i) where
   port-is : (c : ℕ) → c < components p → portReady p chosen i c ≡ implies (takesPart p i c) (ltb (chosenIn p s i c) (transitions p))
-  unfolding portReady implies chosenIn
+  unfolding portReady implies
   port-is c m =
-      let n : c < 16 = le-trans m (laid-accepted p h .components≤) in
-      bool-cases (takesPart p i c)
-      (λ e. rw e (ap (λ (x : ℕ). ltb x (transitions p)) (ap (λ (q : List ℕ). getD q (16 * c + portIn p i c) 0) t ∙ chosen-at p s c (portIn p i c) n (part-lt p h i c l n e .1))))
-      (λ e. rw e refl)
+      bool-cases (takesPart p i c) (λ e. rw e (ap (λ (x : ℕ). ltb x (transitions p)) (t .used c m e))) (λ e. rw e refl)
 
   parts-are : every (components p) (portReady p chosen i) ≡ every (components p) (λ c. implies (takesPart p i c) (ltb (chosenIn p s i c) (transitions p)))
   parts-are = every-same (components p) (portReady p chosen i) (λ c. implies (takesPart p i c) (ltb (chosenIn p s i c) (transitions p))) port-is
@@ -60,18 +54,22 @@ module _ (p : Plan) (s : State) (chosen : List ℕ) (i : ℕ) (h : planRefusal p
 
 -- ---- outranked, by a row of the ranks
 
+-- what lies above an interaction is one: of the 64 bits of a row of the ranks, those of interactions alone are set
+pub above-inside : (p : Plan) (i k : ℕ) → planRefusal p ≡ 0 → i < interactions p → k < 64 → below p i k ≡ true → k < interactions p
+unfolding rankOk
+above-inside p i k h l n e =
+    let r = every-at 64 (λ j. implies (below p i j) (ltb j (interactions p))) (each _ (accepted-plan p h .rank i l) .0) k n in
+    ltb-true _ _ (implies-at (below p i k) (ltb k (interactions p)) r e)
+
 pub row-outranks : (p : Plan) (m i : ℕ) → planRefusal p ≡ 0 → i < interactions p
     → some-below 64 (λ j. bit (rankRow p i) j && bit m j) ≡ some-below (interactions p) (λ j. below p i j && bit m j)
-unfolding below rankOk
+unfolding below
 row-outranks p m i h l =
     some-wider (interactions p) 64 (λ j. below p i j && bit m j) (λ j. bit (rankRow p i) j && bit m j) (laid-accepted p h .interactions≤) (λ k q. refl)
     (λ k q n. bool-cases (bit (rankRow p i) k && bit m k) (λ e. absurd (high k q n (and-both (bit (rankRow p i) k) (bit m k) e .0))) (λ e. e))
   where
     high : (k : ℕ) → interactions p ≤ k → k < 64 → below p i k ≡ true → ⊥
-    high k q n e =
-        let r = every-at 64 (λ j. implies (below p i j) (ltb j (interactions p))) (each _ (accepted-plan p h .rank i l) .0) k n in
-        let w : k < interactions p = ltb-true _ _ (implies-at (below p i k) (ltb k (interactions p)) r e) in
-        omega arith
+    high k q n e = let w = above-inside p i k h l n e in omega arith
 
 -- ---- a walk over a mask that gathers the numbers at which a test holds
 

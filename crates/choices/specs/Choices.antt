@@ -1,13 +1,14 @@
 -- The transition that each component uses through each of its ports, for all of them in one table; and what is enabled and eligible, read from tables and masks.
-use Prim.Native.Nat.{ℕ, _+_, _*_, _/_, _%_}
-use mathlib.Core.Bool.{Bool, not, cond, _&&_}
+use mathlib.Core.Path.{_≡_}
+use Prim.Native.Nat.{ℕ, _+_, _*_, _/_, _%_, _<_}
+use mathlib.Core.Bool.{Bool, true, not, cond, _&&_}
 use mathlib.Core.List.{List, [], _∷_}
 use lib.ListN.{getD, set}
 use lib.Dec.{ltb, eqb}
 use Rattle.semantics.specs.Bytes.{allOf, implies, some-below, lowest, table, bit, mask}
-use Rattle.semantics.specs.Plan.{Plan, transitions, interactions, componentOf, source, portOf, guardOf, portIn, takesPart, below}
+use Rattle.semantics.specs.Plan.{Plan, components, transitions, interactions, componentOf, source, portOf, guardOf, portIn, takesPart, below}
 use Rattle.semantics.specs.Code.{State, guardHolds}
-use Rattle.semantics.specs.Move.{ready, chosen}
+use Rattle.semantics.specs.Move.{ready, chosen, chosenIn}
 
 -- Entry 16 * c + q is the transition that component c uses through port q; the number of transitions where there is none.
 unfoldable pub chosenTable : Plan → State → List ℕ
@@ -36,6 +37,10 @@ chosenBelow p s n = table 256 (λ k. lowestOr (transitions p) n (ready p s (k / 
 -- The transition that the table has for component c in interaction i.
 abbrev pub chosenBy : Plan → List ℕ → ℕ → ℕ → ℕ
 chosenBy p chosen i c = getD chosen (16 * c + portIn p i c) 0
+
+-- For each component that takes part in interaction i the table has the transition that it uses.
+pub record ChosenIn (p : Plan) (s : State) (chosen : List ℕ) (i : ℕ) : Type 0 where
+  pub used : (c : ℕ) → c < components p → takesPart p i c ≡ true → chosenBy p chosen i c ≡ chosenIn p s i c
 
 -- Component c takes no part in interaction i, or the table has a transition for its port.
 unfoldable pub portReady : Plan → List ℕ → ℕ → ℕ → Bool

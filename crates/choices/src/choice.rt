@@ -1,17 +1,18 @@
-// The transition that each component uses through each of its ports, found in one pass over the transitions.
+// The transition that each component uses through each of its ports, found in one pass over the transitions: of all ports, or of those of one interaction.
 use code::eval;
 use layout::header;
 use layout::records;
 use words::bytes;
 ghost use mathlib.Core.Path.{_≡_};
-ghost use Prim.Native.Nat.{_<_};
+ghost use Prim.Native.Nat.{_+_, _≤_, _<_};
 ghost use mathlib.Core.Bool.{cond};
-ghost use lib.Dec.{ltb};
+ghost use lib.Dec.{ltb, eqb};
 ghost use lib.ListN.{length, replicate};
-ghost use Rattle.semantics.specs.Plan.{maxComponents, transitions, componentOf, portOf, guardOf};
+ghost use Rattle.semantics.specs.Bytes.{byte};
+ghost use Rattle.semantics.specs.Plan.{maxComponents, transitions, interactions, componentOf, portOf, guardOf};
 ghost use Rattle.semantics.specs.Code.{site, guardHolds};
 ghost use Rattle.semantics.specs.Rules.{planRefusal};
-ghost use Rattle.choices.specs.Choices.{chosenTable, noted};
+ghost use Rattle.choices.specs.Choices.{chosenTable, ChosenIn, noted};
 
 // The component of transition t.
 fn component_of(plan: &[u8], t: usize) -> usize
@@ -107,6 +108,41 @@ pub fn choose<'a>(
     let mut t = 0;
     while t < count {
         consider(plan, locations, ports, values, out, t);
+        t += 1;
+    }
+}
+
+// Whether transition t goes through the port that its component has in the interaction whose record begins at row.
+fn is_named(plan: &[u8], row: usize, t: usize) -> bool
+    requires { ⌜ planRefusal (now plan) ≡ 0 ⌝ }
+    requires { ⌜ (row + 24 ≤ length (now plan)) × (t < transitions (now plan)) ⌝ }
+    ensures { λ r. ⌜ r ≡ eqb (byte (now (plan .entry)) (row + componentOf (now (plan .entry)) t)) (portOf (now (plan .entry)) t) ⌝ }
+{
+    let port = plan[row + component_of(plan, t)];
+    bytes::wide(port) == port_of(plan, t)
+}
+
+// Fills such a table as far as interaction i reads it: for each component that takes part, the entry of its port. No guard of
+// another transition is evaluated.
+pub fn choose_in<'a>(
+    plan: &[u8],
+    locations: &'a [u8; 16],
+    ports: &'a [u8; 16],
+    values: &'a [i32; 64],
+    out: &mut [u16; 256],
+    i: usize,
+)
+    requires { ⌜ planRefusal (now plan) ≡ 0 ⌝ }
+    requires { ⌜ (i < interactions (now plan)) × (now out ≡ replicate 256 (transitions (now plan))) ⌝ }
+    ensures { λ _. ⌜ ChosenIn (now (plan .entry)) (site (now (locations .entry)) (now (ports .entry)) (now (values .entry))) (now (out .exit)) i ⌝ }
+{
+    let row = records::interaction_at(plan, i);
+    let count = header::transitions(plan);
+    let mut t = 0;
+    while t < count {
+        if is_named(plan, row, t) {
+            consider(plan, locations, ports, values, out, t);
+        }
         t += 1;
     }
 }

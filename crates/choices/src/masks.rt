@@ -15,7 +15,7 @@ ghost use Rattle.semantics.specs.Plan.{maxComponents, maxInteractions, noPort, 
 ghost use Rattle.semantics.specs.Code.{site};
 ghost use Rattle.semantics.specs.Rules.{planRefusal};
 ghost use Rattle.semantics.specs.Move.{enabled};
-ghost use Rattle.choices.specs.Choices.{chosenTable, portReady, stands, standing};
+ghost use Rattle.choices.specs.Choices.{chosenTable, ChosenIn, portReady, stands, standing};
 
 // The port of component c in interaction i; 255 where it takes no part.
 pub fn port_in(plan: &[u8], i: usize, c: usize) -> usize
@@ -97,7 +97,7 @@ fn parts_ready(plan: &[u8], chosen: &[u16; 256], i: usize) -> bool
     eight_ready(plan, chosen, i, 8)
 }
 
-// Whether interaction i is enabled; the ports before the guard.
+// Whether interaction i is enabled; the ports before the guard. The table of chosen transitions has those of its parts.
 fn is_enabled(
     plan: &[u8],
     locations: &[u8; 16],
@@ -107,7 +107,7 @@ fn is_enabled(
     i: usize,
 ) -> bool
     requires { ⌜ planRefusal (now plan) ≡ 0 ⌝ }
-    requires { ⌜ (i < interactions (now plan)) × (now chosen ≡ chosenTable (now plan) (site (now locations) (now ports) (now values))) ⌝ }
+    requires { ⌜ (i < interactions (now plan)) × ChosenIn (now plan) (site (now locations) (now ports) (now values)) (now chosen) i ⌝ }
     ensures { λ r. ⌜ r ≡ enabled (now (plan .entry)) (site (now (locations .entry)) (now (ports .entry)) (now (values .entry))) i ⌝ }
 {
     if !parts_ready(plan, chosen, i) {
@@ -120,6 +120,31 @@ fn is_enabled(
         values,
         records::interaction_at(plan, i) + records::INTERACTION_GUARD,
     )
+}
+
+// The enabled interactions of a mask, from a table that has the chosen transitions of each of them.
+pub fn enabled_among<'a>(
+    plan: &[u8],
+    locations: &'a [u8; 16],
+    ports: &'a [u8; 16],
+    values: &'a [i32; 64],
+    chosen: &[u16; 256],
+    moves: u64,
+) -> u64
+    requires { ⌜ planRefusal (now plan) ≡ 0 ⌝ }
+    requires { ⌜ ((j : ℕ) → bit moves j ≡ true → (j < interactions (now plan)) × ChosenIn (now plan) (site (now locations) (now ports) (now values)) (now chosen) j) ⌝ }
+    ensures { λ r. ⌜ r ≡ mask (interactions (now (plan .entry))) (λ j. bit moves j && enabled (now (plan .entry)) (site (now (locations .entry)) (now (ports .entry)) (now (values .entry))) j) ⌝ }
+{
+    let mut left = moves;
+    let mut found = 0;
+    while left != 0 {
+        let i = bits::lowest_bit(left);
+        if is_enabled(plan, locations, ports, values, chosen, i) {
+            found = bits::with_bit(found, i);
+        }
+        left = bits::without_lowest(left);
+    }
+    found
 }
 
 // The enabled interactions, from the table of chosen transitions.
@@ -135,16 +160,8 @@ pub fn enabled_mask<'a>(
     ensures { λ r. ⌜ (r ≡ mask (interactions (now (plan .entry))) (enabled (now (plan .entry)) (site (now (locations .entry)) (now (ports .entry)) (now (values .entry)))))
         × (r < 2 ^ interactions (now (plan .entry))) ⌝ }
 {
-    let count = header::interactions(plan);
-    let mut out = 0;
-    let mut i = 0;
-    while i < count {
-        if is_enabled(plan, locations, ports, values, chosen, i) {
-            out = bits::with_bit(out, i);
-        }
-        i += 1;
-    }
-    out
+    let all = bits::first_bits(header::interactions(plan));
+    enabled_among(plan, locations, ports, values, chosen, all)
 }
 
 // Whether an interaction of the mask lies above interaction i.

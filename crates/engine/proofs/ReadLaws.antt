@@ -1,19 +1,16 @@
 -- What each call answers and leaves, from what the reading of plan and image gave.
-use mathlib.Core.Path.{_≡_, refl, sym, ap, _∙_, subst}
+use mathlib.Core.Path.{_≡_, sym, ap, _∙_, subst}
 use Prim.Native.Nat.{ℕ, _^_, _≤_, _<_}
-use mathlib.Core.Bool.{Bool, true, false, cond, _&&_}
+use mathlib.Core.Bool.{Bool, true, false, _&&_}
 use mathlib.Core.List.{_++_}
-use lib.ListN.{length, replicate}
-use lib.Dec.{ltb}
 use Rattle.semantics.specs.Bytes.{some-below, bit, withBit}
-use Rattle.semantics.specs.Plan.{Plan, transitions, interactions, below}
+use Rattle.semantics.specs.Plan.{Plan, interactions, below}
 use Rattle.semantics.specs.Code.{State}
 use Rattle.semantics.specs.Refusal.{refusal}
 use Rattle.semantics.specs.Rules.{planRules}
 use Rattle.semantics.specs.Move.{Configuration, enabled, outranked, after, oraclesInRange, oraclesGood, good, safeMove}
 use Rattle.semantics.specs.Image.{Image, image, withMarks, marksOf, configurationOf, imageRules}
 use Rattle.semantics.specs.Calls.{offers, committed, cancelled, stalled, penned, refused, outcome, Call, offered, try, settle, called}
-use Rattle.semantics.proofs.Basics.{le-ltb}
 use Rattle.semantics.proofs.Masks.{bit-mask}
 use Rattle.semantics.proofs.LawfulImage.{configured, LawfulImage, lawful-image}
 use Rattle.choices.specs.Choices.{standing}
@@ -33,10 +30,6 @@ pub record Read (p : Plan) (b : Image) (run : Run) (x : Reading) : Type 0 where
 pub record Seen (p : Plan) (b : Image) (x : Reading) : Type 0 where
   pub refusal-is : x .refusal ≡ refusal (planRules p ++ imageRules p b)
   pub known : x .refusal ≡ 0 → Known p (configurationOf b .state) (bit (marksOf b)) x
-
--- before a transition is considered, the table of choices of a plan that has a header has none
-pub unset-none : (p : Plan) (r : ℕ) → r ≡ cond (ltb (length p) 48) 0 (transitions p) → 48 ≤ length p → replicate 256 r ≡ replicate 256 (transitions p)
-unset-none p r e h = ap (replicate 256) (e ∙ rw (le-ltb (length p) 48 h) refl)
 
 -- the run record of an image holds its configuration and its marks
 pub loaded-held : (b : Image) (run : Run) → run ≡ runOf (configurationOf b) (marksOf b) → ImageHolds b (configurationIn run) (run .marks)

@@ -3,7 +3,7 @@ ghost use mathlib.Core.Path.{_≡_};
 ghost use Rattle.semantics.specs.Calls.{packed};
 ghost use Rattle.engine.specs.Answers.{answerOf};
 
-// The interaction for a committed or cancelled move, the number for a refusal.
+// The interaction for a committed or cancelled move, the number for a refusal, the cause for a log with a wrong entry.
 pub enum Answer {
     Accepted,
     Committed(u8),
@@ -11,10 +11,11 @@ pub enum Answer {
     Stalled,
     Penned,
     Refused(u8),
+    Wrong(u8),
 }
 
-// What an offered call answers: the bits beside the answer, 0 where it is refused.
-pub struct Offer {
+// An answer and the 64 bits beside it, which a second call returns: the moves on offer, or the index of a wrong entry; 0 where there are none.
+pub struct Reply {
     pub answer: Answer,
     pub bits: u64,
 }
@@ -30,5 +31,6 @@ pub fn packed(a: Answer) -> u32
         Answer::Stalled => 196608,
         Answer::Penned => 262144,
         Answer::Refused(n) => 327680 + n as u32,
+        Answer::Wrong(n) => 393216 + n as u32,
     }
 }

@@ -1,7 +1,7 @@
 // The calls on a lane's image: start, offered, try and settle. Each reads the plan and the image anew and keeps nothing. The plan's check stands apart: what
 // follows it takes its answer, for callers that check a plan once.
 use crate::answer::Answer;
-use crate::answer::Offer;
+use crate::answer::Reply;
 use crate::reading;
 use choices::choice;
 use choices::masks;
@@ -17,7 +17,7 @@ ghost use Rattle.semantics.specs.Rules.{planRefusal};
 ghost use lib.ListN.{length};
 ghost use Rattle.semantics.specs.Image.{imageLength};
 ghost use Rattle.semantics.specs.Calls.{packed, start, called, Call.offered, Call.try, Call.settle};
-ghost use Rattle.engine.specs.Answers.{answerOf, offerOf};
+ghost use Rattle.engine.specs.Answers.{answerOf, replyOf};
 
 // Starts a lane: the plan's refusals, 11 and 15, then the starting configuration, its event read, with no marks.
 pub fn start(plan: &[u8], image: &mut [u8]) -> Answer
@@ -51,25 +51,25 @@ pub fn start_from(plan: &[u8], image: &mut [u8], checked: u8) -> Answer
 }
 
 // The moves on offer: enabled, not marked, and with none of these above.
-pub fn offered(plan: &[u8], image: &[u8]) -> Offer
-    ensures { λ r. ⌜ offerOf r ≡ called (now (plan .entry)) (now (image .entry)) offered .answer ⌝ }
+pub fn offered(plan: &[u8], image: &[u8]) -> Reply
+    ensures { λ r. ⌜ replyOf r ≡ called (now (plan .entry)) (now (image .entry)) offered .answer ⌝ }
 {
     offered_from(plan, image, plan::check(plan))
 }
 
-pub fn offered_from(plan: &[u8], image: &[u8], checked: u8) -> Offer
+pub fn offered_from(plan: &[u8], image: &[u8], checked: u8) -> Reply
     requires { ⌜ checked ≡ planRefusal (now plan) ⌝ }
-    ensures { λ r. ⌜ offerOf r ≡ called (now (plan .entry)) (now (image .entry)) offered .answer ⌝ }
+    ensures { λ r. ⌜ replyOf r ≡ called (now (plan .entry)) (now (image .entry)) offered .answer ⌝ }
 {
     let lane = reading::seen(plan, image, checked);
     let refusal = lane.refusal;
     if refusal != 0 {
-        return Offer {
+        return Reply {
             answer: Answer::Refused(refusal),
             bits: 0,
         };
     }
-    Offer {
+    Reply {
         answer: Answer::Accepted,
         bits: masks::standing_mask(plan, lane.free),
     }

@@ -18,11 +18,10 @@ use Rattle.semantics.specs.Move.{chosenIn, enabled, actedBelow, fired}
 use Rattle.semantics.proofs.Basics.{length-table, bool-cases, below-suc, ltb-true, ltb-false, eq-eqb, ne-eqb, table-is}
 use Rattle.semantics.proofs.OneMove.{uses}
 use Rattle.layout.proofs.Sections.{laid-accepted}
-use Rattle.choices.specs.Choices.{chosenTable, chosenBy}
+use Rattle.choices.specs.Choices.{chosenBy, ChosenIn}
 use Rattle.lane.specs.Runs.{Sized}
 use Rattle.moves.specs.Parts.{AllChosen, actPart, actsBelow, setWhere, setBelow}
 use Rattle.choices.proofs.PlanLaws.{part-lt}
-use Rattle.choices.proofs.ChoiceLaws.{chosen-at}
 
 -- ---- a list written place by place
 
@@ -141,10 +140,9 @@ set-no b l k x t = sym (rw t refl)
 
 -- ---- the move
 
-module _ (p : Plan) (s : State) (i : ℕ) (chosen : List ℕ) (a : planRefusal p ≡ 0) (h : i < interactions p) (q : chosen ≡ chosenTable p s) where
+module _ (p : Plan) (s : State) (i : ℕ) (chosen : List ℕ) (a : planRefusal p ≡ 0) (h : i < interactions p) (q : ChosenIn p s chosen i) where
   chosen-is : (c : ℕ) → c < 16 → takesPart p i c ≡ true → chosenBy p chosen i c ≡ chosenIn p s i c
-  unfolding chosenIn
-  chosen-is c l t = ap (λ (x : List ℕ). getD x (16 * c + portIn p i c) 0) q ∙ chosen-at p s c (portIn p i c) l (part-lt p a i c h l t .1)
+  chosen-is c l t = q .used c (part-lt p a i c h l t .0) t
 
   -- where the interaction is enabled, the table has a transition for each part
   pub all-chosen : enabled p s i ≡ true → AllChosen p chosen i

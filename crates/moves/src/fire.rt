@@ -15,7 +15,7 @@ ghost use lib.ListN.{length, getD};
 ghost use Rattle.semantics.specs.Plan.{maxComponents, maxVariables, components, interactions, destination, portIn, takesPart};
 ghost use Rattle.semantics.specs.Rules.{planRefusal};
 ghost use Rattle.semantics.specs.Move.{enabled, fired};
-ghost use Rattle.choices.specs.Choices.{chosenTable, chosenBy};
+ghost use Rattle.choices.specs.Choices.{chosenBy, ChosenIn};
 ghost use Rattle.lane.specs.Runs.{Sized};
 ghost use Rattle.moves.specs.Parts.{AllChosen, actPart, actsBelow, setWhere, setBelow};
 ghost use Rattle.semantics.specs.Code.{site};
@@ -121,7 +121,7 @@ fn arrive(
     }
 }
 
-// Makes the state that of after interaction i; the table of choices is that of the state before it.
+// Makes the state that of after interaction i; the table of choices has those of its parts in the state before it.
 pub fn fire(
     plan: &[u8],
     locations: &mut [u8; 16],
@@ -131,7 +131,7 @@ pub fn fire(
     i: usize,
 )
     requires { ⌜ planRefusal (now plan) ≡ 0 ⌝ }
-    requires { ⌜ (i < interactions (now plan)) × (now chosen ≡ chosenTable (now plan) (site (now locations) (now ports) (now values))) × (enabled (now plan) (site (now locations) (now ports) (now values)) i ≡ true) ⌝ }
+    requires { ⌜ (i < interactions (now plan)) × ChosenIn (now plan) (site (now locations) (now ports) (now values)) (now chosen) i × (enabled (now plan) (site (now locations) (now ports) (now values)) i ≡ true) ⌝ }
     requires { ⌜ Sized (now locations) (now ports) (now values) ⌝ }
     ensures { λ _. ⌜ Sized (now (locations .exit)) (now (ports .exit)) (now (values .exit)) ⌝ }
     ensures { λ _. ⌜ site (now (locations .exit)) (now (ports .exit)) (now (values .exit)) ≡ fired (now (plan .entry)) (site (now (locations .entry)) (now (ports .entry)) (now (values .entry))) i ⌝ }

@@ -1,6 +1,8 @@
 // The event of a state, what the oracles make of it, and the configuration after a move.
 use crate::fire;
 use code::eval;
+use lane::run;
+use lane::run::Run;
 use layout::header::propositions;
 use layout::records::proposition_at;
 use oracle::row;
@@ -10,10 +12,10 @@ ghost use mathlib.Core.Bool.{true};
 ghost use Prim.Native.Nat.{_+_, _<_};
 ghost use Rattle.semantics.specs.Plan.{interactions, letters};
 ghost use Rattle.semantics.specs.Rules.{planRefusal};
-ghost use Rattle.semantics.specs.Move.{enabled, letter, judged, after, oraclesInRange};
-ghost use Rattle.choices.specs.Choices.{chosenTable};
+ghost use Rattle.semantics.specs.Move.{enabled, letter, judged, after, oraclesInRange, initial};
+ghost use Rattle.choices.specs.Choices.{ChosenIn};
 ghost use Rattle.semantics.specs.Code.{site};
-ghost use Rattle.lane.specs.Runs.{lent, Sized};
+ghost use Rattle.lane.specs.Runs.{runOf, lent, Sized};
 
 // The event's letter: the sum of 2^k over the true propositions k.
 pub fn letter(plan: &[u8], locations: &[u8; 16], ports: &[u8; 16], values: &[i32; 64]) -> usize
@@ -47,7 +49,27 @@ pub fn judge<'a>(
     row::next_states(plan, oracles, letter(plan, locations, ports, values))
 }
 
-// Makes the state that of after interaction i, and gives the oracles', the event read; the table of choices is that of the state before it.
+// The run as it starts, its first event read.
+pub fn initial(plan: &[u8]) -> Run
+    requires { ⌜ planRefusal (now plan) ≡ 0 ⌝ }
+    ensures { λ r. ⌜ (r ≡ runOf (initial (now (plan .entry))) 0) × (oraclesInRange (now (plan .entry)) (r .oracles) ≡ true) ⌝ }
+{
+    let run = run::starting(plan);
+    let locations = run.locations;
+    let ports = run.last_ports;
+    let values = run.values;
+    let first = run.oracles;
+    let oracles = judge(plan, &locations, &ports, &values, first);
+    Run {
+        locations: locations,
+        last_ports: ports,
+        values: values,
+        oracles: oracles,
+        marks: 0,
+    }
+}
+
+// Makes the state that of after interaction i, and gives the oracles', the event read; the table of choices has those of its parts in the state before it.
 pub fn after(
     plan: &[u8],
     locations: &mut [u8; 16],
@@ -58,7 +80,7 @@ pub fn after(
     i: usize,
 ) -> [u8; 4]
     requires { ⌜ planRefusal (now plan) ≡ 0 ⌝ }
-    requires { ⌜ (i < interactions (now plan)) × (now chosen ≡ chosenTable (now plan) (site (now locations) (now ports) (now values))) × (enabled (now plan) (site (now locations) (now ports) (now values)) i ≡ true) ⌝ }
+    requires { ⌜ (i < interactions (now plan)) × ChosenIn (now plan) (site (now locations) (now ports) (now values)) (now chosen) i × (enabled (now plan) (site (now locations) (now ports) (now values)) i ≡ true) ⌝ }
     requires { ⌜ (oraclesInRange (now plan) oracles ≡ true) × Sized (now locations) (now ports) (now values) ⌝ }
     ensures { λ r. ⌜ Sized (now (locations .exit)) (now (ports .exit)) (now (values .exit)) ⌝ }
     ensures { λ r. ⌜ (lent (now (locations .exit)) (now (ports .exit)) (now (values .exit)) r ≡ after (now (plan .entry)) (lent (now (locations .entry)) (now (ports .entry)) (now (values .entry)) oracles) i) × (oraclesInRange (now (plan .entry)) r ≡ true) ⌝ }

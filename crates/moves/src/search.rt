@@ -2,6 +2,7 @@
 use crate::judge;
 use choices::masks;
 use layout::header::interactions;
+use layout::records;
 use oracle::row;
 use words::bits;
 ghost use mathlib.Core.Path.{_≡_};
@@ -11,7 +12,7 @@ ghost use Rattle.semantics.specs.Bytes.{every, implies, bit};
 ghost use Rattle.semantics.specs.Plan.{maxInteractions, interactions};
 ghost use Rattle.semantics.specs.Code.{site};
 ghost use Rattle.semantics.specs.Rules.{planRefusal};
-ghost use Rattle.semantics.specs.Move.{enabled, after, oraclesInRange, good, safeMove};
+ghost use Rattle.semantics.specs.Move.{enabled, after, oraclesInRange, good, dominated, safeMove};
 ghost use Rattle.choices.specs.Choices.{chosenTable};
 ghost use Rattle.lane.specs.Runs.{lent, Sized};
 ghost use Rattle.moves.specs.Seeking.{AfterGood, AfterBad};
@@ -54,6 +55,26 @@ pub fn all_bad<'a>(
         left = rest;
     }
     true
+}
+
+// Whether an enabled move that ends good lies above interaction i; the table of choices is that of the state. Each enabled one above is made at most once.
+pub fn is_dominated<'a>(
+    plan: &[u8],
+    locations: &'a [u8; 16],
+    ports: &'a [u8; 16],
+    values: &'a [i32; 64],
+    oracles: [u8; 4],
+    chosen: &[u16; 256],
+    i: usize,
+) -> bool
+    requires { ⌜ planRefusal (now plan) ≡ 0 ⌝ }
+    requires { ⌜ (i < interactions (now plan)) × (now chosen ≡ chosenTable (now plan) (site (now locations) (now ports) (now values))) × (oraclesInRange (now plan) oracles ≡ true) ⌝ }
+    requires { ⌜ Sized (now locations) (now ports) (now values) ⌝ }
+    ensures { λ r. ⌜ r ≡ dominated (now (plan .entry)) (lent (now (locations .entry)) (now (ports .entry)) (now (values .entry)) oracles) i ⌝ }
+{
+    let row = records::rank_row(plan, i);
+    let above = masks::enabled_among(plan, locations, ports, values, chosen, row);
+    !all_bad(plan, locations, ports, values, oracles, chosen, above)
 }
 
 // What settling still seeks: the moves not known to be bad, those of them that may yet be the one, and the lowest that is known to be allowed; the number of

@@ -1,6 +1,6 @@
 -- What 01 says, sentence by sentence: its cases, one move, the ranking, the rules of code, one call and the book's turn; and what 02 says of more oracles
--- (job 1), of the ends of signed 32 bits (job 2) and of ranking past the marks (job 3). The checker takes the modules by name, each behind those that it uses, so a definition that is changed
--- is refused first by one of these facts, before the proofs that build on them.
+-- (job 1), of the ends of signed 32 bits (job 2), of ranking past the marks (job 3) and of a log's entries (job 4). The checker takes the modules by name, each behind
+-- those that it uses, so a definition that is changed is refused first by one of these facts, before the proofs that build on them.
 pub use Rattle.semantics.proofs.CasesHold.{cases-hold}
 pub use Rattle.semantics.proofs.EndsHold.{ends-hold}
 pub use Rattle.semantics.proofs.Saturation.{between-ends, saturate-inside, saturate-above, saturate-below, saturate-idempotent, saturate-monotone}
@@ -12,3 +12,4 @@ pub use Rattle.semantics.proofs.Maximal.{none-good}
 pub use Rattle.semantics.proofs.LawfulImage.{MarkKept, marks-kept, marks-ok}
 pub use Rattle.semantics.proofs.CodeRules.{CodeNames, code-names, OnlyRead, only-read}
 pub use Rattle.semantics.proofs.OneCall.{offered-means, good-committed, oracles-restored, OneMarkMore, bad-cancelled, safe-committed, bad-crossed}
+pub use Rattle.semantics.proofs.LogWalk.{Cause, right-exactly, cause-exactly, FirstWrong, through-exactly, stops-exactly}

@@ -2,10 +2,11 @@
 -- The conditions of the refusals stand in RefusalConditions, that of penned in PennedExactly.
 use mathlib.Core.Path.{_≡_, refl, sym, ap, _∙_, subst}
 use mathlib.Core.Logic.{_↔_, Iff·rfl, Iff·trans, Iff·and}
-use Prim.Native.Nat.{ℕ, zero, suc, _≤_, _<_}
-use native.Mathlib.Nat.{le-antisymm, le-trans}
+use Prim.Native.Nat.{ℕ, zero, suc, _+_, _≤_, _<_}
+use native.Mathlib.Nat.{le-antisymm, le-trans, zero-add}
 use mathlib.Core.Bool.{Bool, true, false, cond}
 use mathlib.Core.List.{[], _++_}
+use lib.ListN.{length}
 use lib.Dec.{ltb, eqb}
 use Rattle.semantics.specs.Bytes.{bit, mask, withBit}
 use Rattle.semantics.specs.Plan.{Plan, interactions, below}
@@ -14,6 +15,7 @@ use Rattle.semantics.specs.Rules.{planRules}
 use Rattle.semantics.specs.Move.{Configuration, enabled, outranked, after, good, mayCommit, safeMove, initial}
 use Rattle.semantics.specs.Image.{Image, image, withMarks, marksOf, configurationOf, lengthRule, imageRules}
 use Rattle.semantics.specs.Calls.{Answer, accepted, offers, committed, cancelled, stalled, penned, refused, Outcome, outcome, unlessRefused, check, startRules, start, clerkRules, offeredMask, Call, offered, try, settle, callRules, performed, called, offeredBits}
+use Rattle.semantics.specs.Log.{Log, entries, wrong, walked, logRules, checkLog}
 use Rattle.semantics.proofs.Basics.{bool-cases, absurd-bool, not-yes, ltb-true, ltb-false, eqb-true, eqb-false, some-found}
 use Rattle.semantics.proofs.Masks.{bit-zero, bit-mask, mask-holds}
 use Rattle.semantics.proofs.Ranking.{above-marked, commit-enabled, commit-good, commit-above, commit-from, safe-commits, safe-lowest, safe-none}
@@ -25,17 +27,19 @@ use Rattle.semantics.proofs.LawfulImage.{LawfulImage, lawful-image, mar
 use Rattle.semantics.proofs.PennedExactly.{Stuck, penned-exactly}
 use Rattle.semantics.proofs.Performed.{Performs, offering, committing, cancelling, settling, penning, stalling, performs, other-kind}
 use Rattle.semantics.proofs.RefusedUnchanged.{Refused, same-not-refused, accepted-not-refused, performed-not-refused, not-refused, called-performed, answers-exactly, own-exactly, kept-exactly, refused-is}
-use Rattle.semantics.proofs.RefusalConditions.{AnyCall, checking, starting, calling, answerTo, rulesOf, numbersOf, all-numbered, gives-own}
+use Rattle.semantics.proofs.RefusalConditions.{AnyCall, checking, starting, calling, logging, answerTo, rulesOf, numbersOf, all-numbered, gives-own}
+use Rattle.semantics.proofs.LogWalk.{causeNumbers, cause-number, Walks, through, stops, walks, walk-not-refused}
 use Rattle.semantics.proofs.OneCall.{SameButMarks, OneMarkMore, marks-written, others-same, offered-means, bad-cancelled}
 
 -- ---- not refused
 
 -- A call is not refused exactly where each of its rules is kept.
 pub unrefused-exactly : (p : Plan) (q : AnyCall) → ¬ Refused (answerTo p q) ↔ Kept (rulesOf p q)
-unfolding check start called
+unfolding check start called checkLog
 unrefused-exactly p checking = kept-exactly (planRules p) [] _ (all-numbered p checking) accepted-not-refused
 unrefused-exactly p (starting b) = kept-exactly (startRules p b) b _ (all-numbered p (starting b)) accepted-not-refused
 unrefused-exactly p (calling b k) = kept-exactly (callRules p b k) b _ (all-numbered p (calling b k)) (performed-not-refused p b k)
+unrefused-exactly p (logging l) = kept-exactly (logRules p l) [] _ (all-numbered p (logging l)) (walk-not-refused p (initial p) (entries l))
 
 call-exactly : (p : Plan) (b : Image) (k : Call) (a : Answer) {C : Type 0} → ¬ Refused a → performed p b k .answer ≡ a ↔ C
     → called p b k .answer ≡ a ↔ Kept (callRules p b k) × C
@@ -222,6 +226,8 @@ pub data Answers (p : Plan) : AnyCall → Answer → Type 0 where
   commits-lowest : {b : Image} (i : ℕ) → i < interactions p → Answers p (calling b settle) (committed i)
   stalls : {b : Image} → Answers p (calling b settle) stalled
   pens : {b : Image} → Answers p (calling b settle) penned
+  accepts-log : {l : Log} → Answers p (logging l) accepted
+  finds-wrong : {l : Log} (n k : ℕ) → among n causeNumbers ≡ true → k < length (entries l) → Answers p (logging l) (wrong n k)
 
 performed-answer : (p : Plan) (b : Image) (k : Call) {o : Outcome} → Kept (callRules p b k) → Performs p b k o → Answers p (calling b k) (o .answer)
 unfolding keeps planRules imageRules lengthRule clerkRules callRules
@@ -231,6 +237,10 @@ performed-answer p b (try i) h (cancelling g) = cancels-tried (ltb-true _ _ (kep
 performed-answer p b _ h (settling l) = commits-lowest _ l
 performed-answer p b _ h (penning t u) = pens
 performed-answer p b _ h (stalling n) = stalls
+
+walked-answer : (p : Plan) (l : Log) {a : Answer} → Walks p (initial p) 0 (entries l) a → Answers p (logging l) a
+walked-answer p l (through r) = accepts-log
+walked-answer p l (stops k n f) = finds-wrong {l = l} n (0 + k) (cause-number _ _ _ (f .why)) (rw (zero-add k) (f .index<))
 
 unless-answer : (p : Plan) (q : AnyCall) (b : Image) (o : Outcome) → answerTo p q ≡ unlessRefused (refusal (rulesOf p q)) b o .answer
     → (Kept (rulesOf p q) → Answers p q (o .answer)) → Answers p q (answerTo p q)
@@ -242,10 +252,12 @@ unless-answer p q b o e f = subst (Answers p q) (sym e) (go (refusal (rulesOf p 
     go (suc n) r = refuses-with (suc n) (gives-own p q (suc n) (e ∙ ap (λ (m : ℕ). unlessRefused m b o .answer) r))
 
 pub every-answer : (p : Plan) (q : AnyCall) → Answers p q (answerTo p q)
-unfolding check start called
+unfolding check start called checkLog
 every-answer p checking = unless-answer p checking [] (outcome accepted []) refl (λ h. accepts-plan)
 every-answer p (starting b) = unless-answer p (starting b) b (outcome accepted (image p (initial p) 0)) refl (λ h. accepts-start)
 every-answer p (calling b k) = unless-answer p (calling b k) b (performed p b k) refl (λ h. performed-answer p b k h (performs p b k))
+every-answer p (logging l) =
+    unless-answer p (logging l) [] (outcome (walked p (initial p) 0 (entries l)) []) refl (λ h. walked-answer p l (walks p (initial p) 0 (entries l)))
 
 -- ---- the bytes after each answer
 

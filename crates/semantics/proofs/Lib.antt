@@ -20,6 +20,10 @@ pub mod GuardsPure
 pub mod Images
 pub mod ImagesRead
 pub mod LawfulImage
+pub mod LogEntries
+pub mod LogExactly
+pub mod LogRuns
+pub mod LogWalk
 pub mod Magnitudes
 pub mod MarksExactly
 pub mod MarksIgnored

@@ -2,7 +2,7 @@
 -- First what the law of a list of rules (RuleLists) says of each call; then the numbers, one theorem each. The order is that of the list.
 use mathlib.Core.Path.{_≡_, refl, sym, ap, _∙_}
 use mathlib.Core.Logic.{_↔_, _≢_, Iff·rfl, Iff·trans, Iff·and}
-use Prim.Native.Nat.{ℕ, zero, suc, _≤_}
+use Prim.Native.Nat.{ℕ, zero, suc, _%_, _≤_}
 use native.Mathlib.Nat.{suc-ne-zero}
 use mathlib.Core.Bool.{Bool, true, false, not, false≢true}
 use mathlib.Core.List.{List, [], _∷_, _++_}
@@ -14,32 +14,37 @@ use Rattle.semantics.specs.Rules.{headOk, countsOk, layoutOk, componentO
 use Rattle.semantics.specs.Move.{enabled, outranked, good, initial}
 use Rattle.semantics.specs.Image.{Image, imageLength, image, marksOf, configurationOf, headMatches, configurationOk, marksOk, lengthRule, imageRules}
 use Rattle.semantics.specs.Calls.{Answer, accepted, refused, Outcome, outcome, unlessRefused, check, startRules, start, clerkRules, Call, offered, try, settle, callRules, performed, called}
+use Rattle.semantics.specs.Log.{Log, entries, walked, logRules, checkLog}
 use Rattle.semantics.proofs.Basics.{absurd-bool, not-no, ltb-false, le-ltb, eqb-false, ne-eqb}
 use Rattle.semantics.proofs.Refusing.{numbered}
 use Rattle.semantics.proofs.Counting.{among}
 use Rattle.semantics.proofs.RuleLists.{Kept, before, keeps, Exactly, numbers, distinct, broken-among, no-rule-0, refusal-exactly, exactly-append, among-append}
 use Rattle.semantics.proofs.RefusedUnchanged.{Refused, accepted-not-refused, performed-not-refused}
+use Rattle.semantics.proofs.LogWalk.{walk-not-refused}
 
 -- ---- the calls
 
--- The five calls: check lends no image, start one that it overwrites, the others one that was started.
+-- The six calls: check lends no image, start one that it overwrites, offered, try and settle one that was started; the check of a log lends the log and no image.
 pub data AnyCall : Type 0 where
   checking : AnyCall
   starting : Image → AnyCall
   calling : Image → Call → AnyCall
+  logging : Log → AnyCall
 
 abbrev pub answerTo : Plan → AnyCall → Answer
 answerTo p checking = check p
 answerTo p (starting b) = start p b .answer
 answerTo p (calling b k) = called p b k .answer
+answerTo p (logging l) = checkLog p l
 
 -- The rules that a call must keep.
 abbrev pub rulesOf : Plan → AnyCall → List Rule
 rulesOf p checking = planRules p
 rulesOf p (starting b) = startRules p b
 rulesOf p (calling b k) = callRules p b k
+rulesOf p (logging l) = logRules p l
 
--- The numbers that a call can give, in the order of its list: the plan's, and after them those of a start, of the image, of the clerk.
+-- The numbers that a call can give, in the order of its list: the plan's, and after them those of a start, of the image, of the clerk, of a log.
 abbrev pub planNumbers : List ℕ
 planNumbers = 1 ∷ 2 ∷ 3 ∷ 4 ∷ 5 ∷ 6 ∷ 7 ∷ 8 ∷ 9 ∷ 20 ∷ 10 ∷ []
 
@@ -53,6 +58,10 @@ imageNumbers = 11 ∷ 12 ∷ 13 ∷ 14 ∷ []
 abbrev pub clerkNumbers : List ℕ
 clerkNumbers = 16 ∷ 17 ∷ 18 ∷ 19 ∷ []
 
+-- "21 ..; it is tested after the plan's numbers and before 15."
+abbrev pub logNumbers : List ℕ
+logNumbers = 21 ∷ 15 ∷ []
+
 -- .. and those of each call.
 abbrev pub numbersOf : AnyCall → List ℕ
 numbersOf checking = planNumbers
@@ -60,23 +69,26 @@ numbersOf (starting b) = planNumbers ++ startNumbers
 numbersOf (calling b offered) = planNumbers ++ imageNumbers
 numbersOf (calling b (try i)) = planNumbers ++ imageNumbers ++ clerkNumbers
 numbersOf (calling b settle) = planNumbers ++ imageNumbers
+numbersOf (logging l) = planNumbers ++ logNumbers
 
 -- Each rule of a call has a number of its own, and none has 0.
 pub distinct-numbers : (p : Plan) (q : AnyCall) → distinct (rulesOf p q) ≡ true
-unfolding distinct planRules lengthRule imageRules clerkRules startRules callRules
+unfolding distinct planRules lengthRule imageRules clerkRules startRules callRules logRules
 distinct-numbers p checking = refl
 distinct-numbers p (starting b) = refl
 distinct-numbers p (calling b offered) = refl
 distinct-numbers p (calling b (try i)) = refl
 distinct-numbers p (calling b settle) = refl
+distinct-numbers p (logging l) = refl
 
 pub all-numbered : (p : Plan) (q : AnyCall) → numbered (rulesOf p q) ≡ true
-unfolding numbered planRules lengthRule imageRules clerkRules startRules callRules
+unfolding numbered planRules lengthRule imageRules clerkRules startRules callRules logRules
 all-numbered p checking = refl
 all-numbered p (starting b) = refl
 all-numbered p (calling b offered) = refl
 all-numbered p (calling b (try i)) = refl
 all-numbered p (calling b settle) = refl
+all-numbered p (logging l) = refl
 
 refused-number : (m n : ℕ) (b : Image) (o : Outcome) → ¬ Refused (o .answer) → unlessRefused m b o .answer ≡ refused (suc n) ↔ m ≡ suc n
 unfolding unlessRefused
@@ -111,12 +123,19 @@ call-refuses p b k n =
     refused-exactly n (callRules p b k) b (performed p b k) (distinct-numbers p (calling b k)) (all-numbered p (calling b k))
     (performed-not-refused p b k)
 
+pub log-refuses : (p : Plan) (l : Log) (n : ℕ) → checkLog p l ≡ refused n ↔ Exactly n (logRules p l)
+unfolding checkLog
+log-refuses p l n =
+    refused-exactly n (logRules p l) [] (outcome (walked p (initial p) 0 (entries l)) []) (distinct-numbers p (logging l)) (all-numbered p (logging l))
+    (walk-not-refused p (initial p) (entries l))
+
 pub refuses : (p : Plan) (q : AnyCall) (n : ℕ) → answerTo p q ≡ refused n ↔ Exactly n (rulesOf p q)
 refuses p checking n = check-refuses p n
 refuses p (starting b) n = start-refuses p b n
 refuses p (calling b k) n = call-refuses p b k n
+refuses p (logging l) n = log-refuses p l n
 
--- For the numbers of the plan the condition is the same for all five calls; for those of the image it is the same for offered, try and settle.
+-- For the numbers of the plan the condition is the same for all six calls; for those of the image it is the same for offered, try and settle.
 same-by-call : (p : Plan) (b : Image) (k : Call) (n : ℕ)
     → among n (planNumbers ++ imageNumbers) ≡ true → Exactly n (callRules p b k) ≡ Exactly n (planRules p ++ imageRules p b)
 unfolding planRules lengthRule imageRules callRules
@@ -125,11 +144,12 @@ same-by-call p b (try i) n h = exactly-append n (planRules p ++ imageRules p b) 
 same-by-call p b settle n h = refl
 
 same-by-any : (p : Plan) (q : AnyCall) (n : ℕ) → among n planNumbers ≡ true → Exactly n (rulesOf p q) ≡ Exactly n (planRules p)
-unfolding planRules startRules
+unfolding planRules startRules logRules
 same-by-any p checking n h = refl
 same-by-any p (starting b) n h = exactly-append n (planRules p) (lengthRule b ∷ rule 15 (good p (initial p)) ∷ []) h
 same-by-any p (calling b k) n h =
     same-by-call p b k n (among-append n planNumbers imageNumbers h) ∙ exactly-append n (planRules p) (imageRules p b) h
+same-by-any p (logging l) n h = exactly-append n (planRules p) _ h
 
 pub image-refuses : (p : Plan) (b : Image) (k : Call) (n : ℕ)
     → among n (planNumbers ++ imageNumbers) ≡ true → called p b k .answer ≡ refused n ↔ Exactly n (planRules p ++ imageRules p b)
@@ -138,17 +158,27 @@ image-refuses p b k n h = rw (← same-by-call p b k n h) (call-refuses p b k n)
 pub plan-refuses : (p : Plan) (q : AnyCall) (n : ℕ) → among n planNumbers ≡ true → answerTo p q ≡ refused n ↔ Exactly n (planRules p)
 plan-refuses p q n h = rw (← same-by-any p q n h) (refuses p q n)
 
+-- ---- the simulator, 21: the check of a log
+
+-- 21 (02, job 4): "when the log has an odd number of bytes; it is tested after the plan's numbers and before 15".
+pub refusal-21 : (p : Plan) (l : Log) → checkLog p l ≡ refused 21 ↔ Kept (planRules p) × (length l % 2 ≢ 0)
+unfolding before keeps planRules logRules
+refusal-21 p l = Iff·trans (log-refuses p l 21) (Iff·and Iff·rfl (eqb-false (length l % 2) 0, ne-eqb (length l % 2) 0))
+
+-- ---- which numbers a call gives
+
 -- A call gives only numbers of its own rules: a number that no rule of its list has is never given.
 pub gives : (p : Plan) (q : AnyCall) (n : ℕ) → answerTo p q ≡ refused n → among n (numbers (rulesOf p q)) ≡ true
 gives p q n e = broken-among n (rulesOf p q) (refuses p q n .0 e .1)
 
 pub gives-own : (p : Plan) (q : AnyCall) (n : ℕ) → answerTo p q ≡ refused n → among n (numbersOf q) ≡ true
-unfolding planRules lengthRule imageRules clerkRules startRules callRules
+unfolding planRules lengthRule imageRules clerkRules startRules callRules logRules
 gives-own p checking n = gives p checking n
 gives-own p (starting b) n = gives p (starting b) n
 gives-own p (calling b offered) n = gives p (calling b offered) n
 gives-own p (calling b (try i)) n = gives p (calling b (try i)) n
 gives-own p (calling b settle) n = gives p (calling b settle) n
+gives-own p (logging l) n = gives p (logging l) n
 
 pub check-gives : (p : Plan) (n : ℕ) → check p ≡ refused n → among n planNumbers ≡ true
 check-gives p n = gives-own p checking n
@@ -166,7 +196,10 @@ pub try-gives : (p : Plan) (b : Image) (i n : ℕ) → called p b (try i) .answe
     → among n (planNumbers ++ imageNumbers ++ clerkNumbers) ≡ true
 try-gives p b i n = gives-own p (calling b (try i)) n
 
--- ---- the planner, 1 to 10 and 20: check, start, offered, try and settle alike. From 4 on, `before n` names the rules that stand before rule n at once.
+pub log-gives : (p : Plan) (l : Log) (n : ℕ) → checkLog p l ≡ refused n → among n (planNumbers ++ logNumbers) ≡ true
+log-gives p l n = gives-own p (logging l) n
+
+-- ---- the planner, 1 to 10 and 20: check, start, offered, try, settle and the check of a log alike. From 4 on, `before n` names the rules that stand before rule n at once.
 
 -- 1: "fewer than 48 bytes, wrong letters, or bytes" 46 and 47 "not zero".
 pub refusal-1 : (p : Plan) (q : AnyCall) → answerTo p q ≡ refused 1 ↔ headOk p ≡ false
@@ -256,17 +289,23 @@ pub refusal-14 : (p : Plan) (b : Image) (k : Call)
 unfolding keeps planRules imageRules lengthRule
 refusal-14 p b k = image-refuses p b k 14 refl
 
--- ---- the site, 15: start
+-- ---- the site, 15: start, and the check of a log
 
--- 15: "at start only, the starting state is bad".
+-- 15: "at start only, the starting state is bad"; 02, job 4, has it of a log too.
 pub refusal-15 : (p : Plan) (b : Image) → start p b .answer ≡ refused 15 ↔ Kept (before 15 (startRules p b)) × (good p (initial p) ≡ false)
 unfolding keeps planRules startRules lengthRule
 refusal-15 p b = start-refuses p b 15
 
-pub only-start-gives-15 : (p : Plan) (b : Image) (k : Call) → called p b k .answer ≢ refused 15
-only-start-gives-15 p b offered e = false≢true (offered-gives p b 15 e)
-only-start-gives-15 p b (try i) e = false≢true (try-gives p b i 15 e)
-only-start-gives-15 p b settle e = false≢true (settle-gives p b 15 e)
+-- 15 of a log, an empty one too.
+pub log-refusal-15 : (p : Plan) (l : Log) → checkLog p l ≡ refused 15 ↔ Kept (before 15 (logRules p l)) × (good p (initial p) ≡ false)
+unfolding keeps planRules logRules
+log-refusal-15 p l = log-refuses p l 15
+
+-- Offered, try and settle never give it.
+pub calls-give-no-15 : (p : Plan) (b : Image) (k : Call) → called p b k .answer ≢ refused 15
+calls-give-no-15 p b offered e = false≢true (offered-gives p b 15 e)
+calls-give-no-15 p b (try i) e = false≢true (try-gives p b i 15 e)
+calls-give-no-15 p b settle e = false≢true (settle-gives p b 15 e)
 
 -- ---- the clerk, 16 to 19: try
 

@@ -11,7 +11,7 @@ use Rattle.semantics.specs.Move.{enabled, outranked, eligible, after, go
 use Rattle.semantics.specs.Image.{Image, image, withMarks, marksOf, configurationOf, lengthRule, imageRules}
 
 -- "Other answers are a kind .. and a number"; "An accepted offered call answers kind 0, number 0 and the bits; a refused one kind 5,
--- its number and no bits."
+-- its number and no bits." The bits are what a second call returns; of a log (02, job 4) they are an index.
 pub record Answer : Type 0 where
   pub kind : ℕ
   pub number : ℕ
@@ -61,7 +61,7 @@ unlessRefused (suc n) b o = outcome (refused (suc n)) b
 unfoldable pub check : Plan → Answer
 check p = unlessRefused (refusal (planRules p)) [] (outcome accepted []) .answer
 
--- "Start skips 12–14, since it overwrites the image"; "15: at start only, the starting state is bad".
+-- "Start skips 12–14, since it overwrites the image"; "15: at start only, the starting state is bad" (and, by 02, job 4, of a log: Log).
 unfoldable pub startRules : Plan → Image → List Rule
 startRules p b = planRules p ++ lengthRule b ∷ rule 15 (good p (initial p)) ∷ []
 

@@ -1,8 +1,10 @@
 // The calls that C programs make: include/yard.h. An answer is one number, kind * 65536 + number.
 use engine::answer;
 use engine::calls;
+use walks::log;
 ghost use mathlib.Core.Path.{_≡_};
 ghost use Rattle.semantics.specs.Calls.{packed, check, start, called, offeredBits};
+ghost use Rattle.semantics.specs.Log.{checkLog, logIndex};
 ghost use Rattle.semantics.specs.Calls.Call.{offered, try, settle};
 
 // Whether a plan is lawful: accepted, or refused with 1 to 10 or 20.
@@ -56,4 +58,23 @@ pub extern "C" fn yard_settle(plan: &[u8], image: &mut [u8]) -> u32
     ensures { λ r. ⌜ (r ≡ packed (called (now (plan .entry)) (now (image .entry)) settle .answer)) × (now (image .exit) ≡ called (now (plan .entry)) (now (image .entry)) settle .image) ⌝ }
 {
     answer::packed(calls::settle(plan, image))
+}
+
+// Whether a log is a run from the starting state: accepted, wrong with the cause, or refused with 1 to 10, 15, 20 or 21.
+#[no_mangle]
+pub extern "C" fn yard_log(plan: &[u8], log: &[u8]) -> u32
+    ensures { λ r. ⌜ r ≡ packed (checkLog (now (plan .entry)) (now (log .entry))) ⌝ }
+{
+    let checked = log::check_log(plan, log);
+    let said = checked.answer;
+    answer::packed(said)
+}
+
+// The index, from 0, of the first wrong entry; 0 where there is none.
+#[no_mangle]
+pub extern "C" fn yard_log_index(plan: &[u8], log: &[u8]) -> u64
+    ensures { λ r. ⌜ r ≡ logIndex (now (plan .entry)) (now (log .entry)) ⌝ }
+{
+    let found = log::check_log(plan, log);
+    found.bits
 }

@@ -1,8 +1,10 @@
-// Runs the plan check, the calls on an image, both with added oracles, sums, and ranks with marks, at
-// their limits: for each case a line with the case and the answer. What the modules of the cases share
-// stands here, private to them: lawful plans laid into a buffer, and the lines of the calls.
+// Runs the plan check, the calls on an image, both with added oracles, sums, ranks with marks, and the
+// check of a log, at their limits: for each case a line with the case and the answer, of a log a second
+// one with the index. What the modules of the cases share stands here, private to them: lawful plans laid
+// into a buffer, and the lines of the calls.
 mod calls;
 mod checks;
+mod logs;
 mod oracle_calls;
 mod oracle_checks;
 mod rank_calls;
@@ -16,8 +18,8 @@ type Buffer = [u8; 65536];
 // Memory for an image of 312 bytes, and for one that is a byte too long.
 type Image = [u8; 313];
 
-// Kind 6, which is no answer: a part was longer than the memory it is of.
-const LONGER: u32 = 6 * 65536;
+// Kind 255, which is no answer: a part was longer than the memory it is of.
+const LONGER: u32 = 255 * 65536;
 
 // Writes one byte; nothing here is written past the buffer's end.
 fn poke(buf: &mut Buffer, at: usize, v: u8) {
@@ -137,6 +139,8 @@ fn say_number(answer: u32) {
         io::write_all(1, b"cancelled ");
     } else if kind == 5 {
         io::write_all(1, b"refused ");
+    } else if kind == 6 {
+        io::write_all(1, b"wrong ");
     } else {
         io::write_all(1, b"unknown answer of kind ");
         io::print_decimal(1, kind as u64);
@@ -282,4 +286,5 @@ fn main() {
     oracle_calls::run();
     sums::run();
     rank_calls::run();
+    logs::run();
 }

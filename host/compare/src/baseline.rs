@@ -7,5 +7,7 @@ yard::engine!(
     "base_offered",
     "base_offered_bits",
     "base_try",
-    "base_settle"
+    "base_settle",
+    "base_log",
+    "base_log_index"
 );

@@ -2,6 +2,7 @@
 
 use reference::answer::Answer;
 use reference::calls;
+use reference::log;
 use reference::sums;
 
 use crate::causes::cause;
@@ -9,16 +10,19 @@ use crate::difference::Difference;
 use crate::engines::{Call, Engine, Reply, BASELINE, LIBRARY};
 use crate::fault::{self, Case};
 use crate::lent::{End, Lent, LentPlan, ENDS};
+use crate::logs::shown;
 use crate::ranking::Ranked;
 use crate::tally::Tally;
 
-/// The longest image, lawful or not, has fewer bytes.
-const IMAGE_ROOM: usize = 1000;
+/// The longest image, lawful or not, and the longest log have fewer bytes.
+const ROOM: usize = 2000;
 
 /// The call's result, on which all agree.
 pub struct Outcome {
     pub answer: Answer,
+    /// The bits of the moves on offer, or the index of a log's first wrong entry.
     pub bits: u64,
+    /// The image, or the log as it was.
     pub image: Vec<u8>,
 }
 
@@ -29,7 +33,8 @@ struct Question<'a> {
     call: Call,
     number: u64,
     plan: &'a LentPlan,
-    image: &'a [u8],
+    /// The image or the log.
+    lent: &'a [u8],
 }
 
 /// The calls that an older build is not held to, and those of them in which its answer or image differs.
@@ -60,7 +65,7 @@ impl Comparer {
             library,
             older: None,
             left_out: LeftOut::default(),
-            lent: Lent::new(IMAGE_ROOM),
+            lent: Lent::new(ROOM),
         }
     }
 
@@ -92,16 +97,20 @@ impl Comparer {
         &mut self,
         tally: &mut Tally,
         plan: &LentPlan,
-        image: &[u8],
+        lent: &[u8],
         call: Call,
     ) -> Checked<Outcome> {
-        let (outcome, past) = sums::counted(|| by_reference(call, plan.bytes(), image));
+        let (outcome, past) = sums::counted(|| by_reference(call, plan.bytes(), lent));
         tally.count(call, outcome.answer);
         tally.past(past);
-        if let Some(cause) = cause(plan.bytes(), image, outcome.answer) {
+        if let Some(cause) = cause(plan.bytes(), lent, outcome.answer) {
             tally.cause(cause);
         }
-        let ranked = Ranked::read(call, plan.bytes(), image);
+        if call == Call::Log {
+            let shown = shown(plan.bytes(), lent, outcome.answer);
+            shown.into_iter().for_each(|what| tally.shown(what));
+        }
+        let ranked = Ranked::read(call, plan.bytes(), lent);
         let facts = ranked
             .iter()
             .flat_map(|ranked| ranked.facts(call, outcome.answer, outcome.bits));
@@ -110,7 +119,7 @@ impl Comparer {
             call,
             number: tally.calls,
             plan,
-            image,
+            lent,
         };
         for end in ENDS {
             self.hold(self.library, end, &question, &outcome)?;
@@ -129,7 +138,10 @@ impl Comparer {
         outcome: &Outcome,
         is_ranked: bool,
     ) -> Checked<()> {
-        let Some(older) = self.older else {
+        let older = self
+            .older
+            .filter(|older| older.logs.is_some() || !question.call.is_of_log());
+        let Some(older) = older else {
             return Ok(());
         };
         let held = self.hold(older, end, question, outcome);
@@ -155,7 +167,7 @@ impl Comparer {
             "answer"
         } else if after != outcome.image {
             "image"
-        } else if outcome.answer.kind() == yard::REFUSED && after != question.image {
+        } else if outcome.answer.kind() == yard::REFUSED && after != question.lent {
             "image of a refused call"
         } else {
             return Ok(());
@@ -168,13 +180,13 @@ impl Comparer {
             expected: ("reference", expected),
             first_byte: first_difference(after, &outcome.image),
             plan: question.plan.bytes().to_vec(),
-            image: question.image.to_vec(),
+            lent: question.lent.to_vec(),
         }))
     }
 
-    /// Lends the plan and a copy of the image, and makes the call.
+    /// Lends the plan and a copy of the image or log, and makes the call.
     fn ask(&mut self, engine: Engine, end: End, question: &Question) -> Reply {
-        self.lent.put(end, question.image);
+        self.lent.put(end, question.lent);
         let plan = question.plan.at(end);
         let case = Case {
             seed: self.seed,
@@ -183,7 +195,7 @@ impl Comparer {
             call: question.call,
             end,
             plan: addresses(plan),
-            image: addresses(self.lent.bytes()),
+            lent: addresses(self.lent.bytes()),
         };
         fault::during(&case, || engine.make(question.call, plan, &mut self.lent))
     }
@@ -194,14 +206,15 @@ fn addresses(bytes: &[u8]) -> std::ops::Range<usize> {
     start..start + bytes.len()
 }
 
-fn by_reference(call: Call, plan: &[u8], image: &[u8]) -> Outcome {
-    let mut image = image.to_vec();
+fn by_reference(call: Call, plan: &[u8], lent: &[u8]) -> Outcome {
+    let mut image = lent.to_vec();
     let (answer, bits) = match call {
         Call::Check => (calls::check(plan), 0),
         Call::Start => (calls::start(plan, &mut image), 0),
         Call::Offered | Call::Bits => calls::offered(plan, &image),
         Call::Try(number) => (calls::attempt(plan, &mut image, number), 0),
         Call::Settle => (calls::settle(plan, &mut image), 0),
+        Call::Log | Call::LogIndex => log::check(plan, lent),
     };
     Outcome {
         answer,

@@ -15,8 +15,8 @@ pub struct Difference {
     /// The first byte of the image that differs, if one does.
     pub first_byte: Option<usize>,
     pub plan: Vec<u8>,
-    /// The image before the call.
-    pub image: Vec<u8>,
+    /// The image before the call, or the log.
+    pub lent: Vec<u8>,
 }
 
 impl Difference {
@@ -26,12 +26,13 @@ impl Difference {
         for (who, reply) in [self.said, self.expected] {
             println!("{who}: {reply:?}");
         }
+        let lends = self.call.lends();
         match self.first_byte {
-            Some(at) => println!("the images after the call differ from byte {at} on"),
-            None => println!("the images after the call are equal"),
+            Some(at) => println!("the {lends}s after the call differ from byte {at} on"),
+            None => println!("the {lends}s after the call are equal"),
         }
         self.save(seed, "plan", &self.plan);
-        self.save(seed, "image", &self.image);
+        self.save(seed, lends, &self.lent);
     }
 
     fn save(&self, seed: u64, kind: &str, bytes: &[u8]) {

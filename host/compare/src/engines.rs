@@ -14,6 +14,8 @@ pub enum Call {
     Bits,
     Try(u32),
     Settle,
+    Log,
+    LogIndex,
 }
 
 impl Call {
@@ -26,13 +28,28 @@ impl Call {
             Call::Bits => 3,
             Call::Try(_) => 4,
             Call::Settle => 5,
+            Call::Log => 6,
+            Call::LogIndex => 7,
         }
     }
 
-    /// What the book is told; nothing of a check, which has no lane.
+    pub fn is_of_log(self) -> bool {
+        matches!(self, Call::Log | Call::LogIndex)
+    }
+
+    /// What is lent beside the plan.
+    pub fn lends(self) -> &'static str {
+        if self.is_of_log() {
+            "log"
+        } else {
+            "image"
+        }
+    }
+
+    /// What the book is told; nothing of a check or a log, which have no lane.
     pub fn told(self) -> Option<book::Call> {
         match self {
-            Call::Check => None,
+            Call::Check | Call::Log | Call::LogIndex => None,
             Call::Start => Some(book::Call::Start),
             Call::Offered | Call::Bits => Some(book::Call::Offered),
             Call::Try(number) => Some(book::Call::Try(number)),
@@ -46,18 +63,28 @@ impl Call {
 pub enum Reply {
     Answer(Answer),
     Bits(u64),
+    Index(u64),
 }
 
 impl Reply {
+    /// The bits are the index where a log was checked.
     pub fn of(call: Call, answer: reference::answer::Answer, bits: u64) -> Reply {
         match call {
             Call::Bits => Reply::Bits(bits),
+            Call::LogIndex => Reply::Index(bits),
             _ => Reply::Answer(Answer {
                 kind: answer.kind(),
                 number: answer.number(),
             }),
         }
     }
+}
+
+/// The calls on a log.
+#[derive(Clone, Copy)]
+pub struct Logs {
+    pub check: fn(&[u8], &[u8]) -> Answer,
+    pub index: fn(&[u8], &[u8]) -> u64,
 }
 
 /// An engine with the interface of yard.h.
@@ -70,6 +97,8 @@ pub struct Engine {
     pub bits: fn(&[u8], &[u8]) -> u64,
     pub attempt: fn(&[u8], &mut [u8], u32) -> Answer,
     pub settle: fn(&[u8], &mut [u8]) -> Answer,
+    /// None in a build of before them.
+    pub logs: Option<Logs>,
 }
 
 pub const LIBRARY: Engine = Engine {
@@ -80,6 +109,10 @@ pub const LIBRARY: Engine = Engine {
     bits: yard::offered_bits,
     attempt: yard::attempt,
     settle: yard::settle,
+    logs: Some(Logs {
+        check: yard::log,
+        index: yard::log_index,
+    }),
 };
 
 pub const BASELINE: Engine = Engine {
@@ -90,18 +123,28 @@ pub const BASELINE: Engine = Engine {
     bits: baseline::offered_bits,
     attempt: baseline::attempt,
     settle: baseline::settle,
+    logs: Some(Logs {
+        check: baseline::log,
+        index: baseline::log_index,
+    }),
 };
 
 impl Engine {
-    /// Makes the call; the image is lent for writing only where the call may write.
-    pub fn make(&self, call: Call, plan: &[u8], image: &mut Lent) -> Reply {
+    /// Makes the call; image or log is lent for writing only where the call may write.
+    pub fn make(&self, call: Call, plan: &[u8], lent: &mut Lent) -> Reply {
         Reply::Answer(match call {
             Call::Check => (self.check)(plan),
-            Call::Start => (self.start)(plan, image.bytes_mut()),
-            Call::Offered => (self.offered)(plan, image.locked()),
-            Call::Bits => return Reply::Bits((self.bits)(plan, image.locked())),
-            Call::Try(number) => (self.attempt)(plan, image.bytes_mut(), number),
-            Call::Settle => (self.settle)(plan, image.bytes_mut()),
+            Call::Start => (self.start)(plan, lent.bytes_mut()),
+            Call::Offered => (self.offered)(plan, lent.locked()),
+            Call::Bits => return Reply::Bits((self.bits)(plan, lent.locked())),
+            Call::Try(number) => (self.attempt)(plan, lent.bytes_mut(), number),
+            Call::Settle => (self.settle)(plan, lent.bytes_mut()),
+            Call::Log => (self.logs().check)(plan, lent.locked()),
+            Call::LogIndex => return Reply::Index((self.logs().index)(plan, lent.locked())),
         })
+    }
+
+    fn logs(&self) -> Logs {
+        self.logs.expect("an engine without logs is asked for none")
     }
 }

@@ -46,7 +46,8 @@ pub struct Case {
     pub call: Call,
     pub end: End,
     pub plan: Range<usize>,
-    pub image: Range<usize>,
+    /// The image or the log.
+    pub lent: Range<usize>,
 }
 
 /// Null while no call is made.
@@ -102,10 +103,11 @@ fn say(text: &mut Text, case: &Case, address: usize) -> fmt::Result {
         text,
         ": {call:?} of the {engine}, with the {end:?} end of plan"
     )?;
-    write!(text, " ({} bytes) and image", case.plan.len())?;
-    writeln!(text, " ({}) at a guard page", case.image.len())?;
+    let lends = call.lends();
+    write!(text, " ({} bytes) and {lends}", case.plan.len())?;
+    writeln!(text, " ({}) at a guard page", case.lent.len())?;
     write!(text, "compare: the run stops: the call ")?;
-    for (name, lent) in [("plan", &case.plan), ("image", &case.image)] {
+    for (name, lent) in [("plan", &case.plan), (lends, &case.lent)] {
         if let Some((done, bytes, place)) = doing(lent, address) {
             return writeln!(text, "{done} {bytes} {place} the {name}");
         }

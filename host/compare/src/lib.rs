@@ -12,6 +12,7 @@ pub mod fault;
 pub mod generate;
 pub mod images;
 pub mod lent;
+pub mod logs;
 pub mod oracle;
 pub mod pages;
 #[cfg(test)]
@@ -20,9 +21,12 @@ pub mod ranking;
 #[cfg(test)]
 mod ranks_first;
 pub mod rng;
+pub mod runs;
 pub mod sequences;
 pub mod spoil;
 pub mod tally;
 pub mod words;
 #[cfg(test)]
 mod wrapping;
+#[cfg(test)]
+mod wrong_logs;

@@ -5,7 +5,7 @@ use std::process::Command;
 use std::{env, ptr};
 
 use crate::checked::Comparer;
-use crate::engines::{Engine, LIBRARY};
+use crate::engines::{Engine, Logs, LIBRARY};
 use crate::fault;
 use crate::sequences::{Plans, Session};
 
@@ -26,8 +26,9 @@ fn rewrite(bytes: &[u8], at: usize) {
 
 /// Each fault as an engine of that name, with the end at which it is seen and what is said of it.
 #[rustfmt::skip]
-fn faults() -> [(Engine, &'static str, &'static str); 6] {
+fn faults() -> [(Engine, &'static str, &'static str); 9] {
     let engine = |name| Engine { name, ..LIBRARY };
+    let of_logs = |name, check| Engine { logs: Some(Logs { check, index: yard::log_index }), ..engine(name) };
     [
         (Engine { check: |p| { read(p, p.len() as isize); yard::check(p) }, ..engine("read past the plan") },
             "Back", "read or wrote a byte 1 behind the plan"),
@@ -41,6 +42,12 @@ fn faults() -> [(Engine, &'static str, &'static str); 6] {
             "Front", "wrote to byte 7 of the read-only pages of the plan"),
         (Engine { bits: |p, b| { rewrite(b, 16); yard::offered_bits(p, b) }, ..engine("write to an image to read") },
             "Front", "wrote to byte 16 of the read-only pages of the image"),
+        (of_logs("read past the log", |p, l| { read(l, l.len() as isize); yard::log(p, l) }),
+            "Back", "read or wrote a byte 1 behind the log"),
+        (of_logs("read before the log", |p, l| { read(l, -1); yard::log(p, l) }),
+            "Front", "read or wrote a byte 1 before the log"),
+        (of_logs("write to the log", |p, l| { rewrite(l, 1); yard::log(p, l) }),
+            "Front", "wrote to byte 1 of the read-only pages of the log"),
     ]
 }
 

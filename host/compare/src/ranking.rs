@@ -76,7 +76,7 @@ impl Ranked {
     /// None where the call reads no image, where plan or image has another fault than its marks, and where no enabled interaction lies above
     /// another: the ranks then play no part.
     pub fn read(call: Call, plan: &[u8], image: &[u8]) -> Option<Ranked> {
-        if matches!(call, Call::Check | Call::Start) {
+        if matches!(call, Call::Check | Call::Start) || call.is_of_log() {
             return None;
         }
         let plan = Plan::read(plan).ok()?;

@@ -1,5 +1,7 @@
 //! Random sequences of calls on random plans, held against the reference and the book.
 
+mod logs;
+
 use std::ops::Range;
 
 use reference::answer::Answer;
@@ -39,6 +41,8 @@ pub struct Session {
     plans: Shelf,
     /// An image that another plan reached.
     other: Vec<u8>,
+    /// The last log.
+    log: Vec<u8>,
 }
 
 impl Session {
@@ -50,6 +54,7 @@ impl Session {
             comparer,
             plans: Shelf::default(),
             other: vec![0; IMAGE_BYTES],
+            log: Vec::new(),
         }
     }
 
@@ -79,7 +84,9 @@ impl Session {
         if started.answer == Answer::Accepted {
             image = self.sequence(&made.draft, &plan, image)?;
             self.other.clone_from(&image);
+            self.log_of_run(&plan)?;
         }
+        self.any_log(&plan)?;
         for _ in 0..4 {
             self.damaged_plan(&made.draft, &image)?;
         }
@@ -93,7 +100,7 @@ impl Session {
         let mut book = Book::new(lawful);
         let mut image = started;
         let mut offer = 0;
-        let (mut calls, mut moves) = (0, 0);
+        let (mut calls, mut moves) = (0, Vec::new());
         for _ in 0..self.rng.pick(&[4, 12, 12, 30, 60]) {
             self.detour(draft, plan, &image)?;
             let call = self.next_call(draft.interactions.len(), offer);
@@ -102,13 +109,19 @@ impl Session {
             image = outcome.image;
             calls += 1;
             match outcome.answer {
-                Answer::Accepted => offer = outcome.bits,
-                Answer::Committed(_) => moves += 1,
+                Answer::Accepted => {
+                    offer = outcome.bits;
+                    if call == Call::Start {
+                        moves.clear();
+                    }
+                }
+                Answer::Committed(number) => moves.push(number),
                 Answer::Stalled | Answer::Penned if self.rng.chance(50) => break,
                 _ => {}
             }
         }
-        self.tally.sequence(calls, moves);
+        self.tally.sequence(calls, moves.len());
+        self.log_of_sequence(plan, &moves)?;
         Ok(image)
     }
 
@@ -150,7 +163,7 @@ impl Session {
             expected: ("all without them", Reply::of(call, other.answer, 0)),
             first_byte,
             plan: plan.bytes().to_vec(),
-            image: image.to_vec(),
+            lent: image.to_vec(),
         }))
     }
 
@@ -205,6 +218,9 @@ impl Session {
             self.any_call(draft, &plan, &damaged)?;
         }
         self.any_call(draft, &plan, image)?;
+        if self.rng.chance(10) {
+            self.any_log(&plan)?;
+        }
         self.plans.take_back(plan);
         Ok(())
     }
@@ -264,7 +280,7 @@ impl Session {
             expected: ("book", expected),
             first_byte,
             plan: plan.bytes().to_vec(),
-            image: image.to_vec(),
+            lent: image.to_vec(),
         }))
     }
 }

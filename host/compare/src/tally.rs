@@ -9,18 +9,24 @@ use reference::sums::Past;
 use crate::causes::{Cause, CAUSES};
 use crate::engines::Call;
 use crate::generate::Generated;
+use crate::logs::{Shown, SHOWN};
 use crate::ranking::{Fact, FACTS};
 use crate::sequences::Plans;
 
-const CALLS: [&str; 6] = ["check", "start", "offered", "bits", "try", "settle"];
-const KINDS: [&str; 6] = [
+const CALLS: [&str; 8] = [
+    "check", "start", "offered", "bits", "try", "settle", "log", "index",
+];
+const KINDS: [&str; 7] = [
     "accepted",
     "committed",
     "cancelled",
     "stalled",
     "penned",
     "refused",
+    "wrong",
 ];
+/// The refusal that plans without added oracles do not have.
+const ADDED: usize = 20;
 const SUMS: [&str; 3] = ["add", "subtract", "kind 1"];
 const ENDS: [&str; 2] = ["upper", "lower"];
 const SIZES: [&str; 11] = [
@@ -40,10 +46,11 @@ const SIZES: [&str; 11] = [
 #[derive(Default)]
 pub struct Tally {
     pub calls: u64,
-    answers: [[u64; 6]; 6],
-    refusals: [u64; 21],
+    answers: [[u64; KINDS.len()]; CALLS.len()],
+    refusals: [u64; 22],
     causes: [u64; CAUSES.len()],
     facts: [u64; FACTS.len()],
+    shown: [u64; SHOWN.len()],
     past: Past,
     plans: u64,
     largest: [usize; 11],
@@ -66,6 +73,10 @@ impl Tally {
 
     pub fn fact(&mut self, fact: Fact) {
         self.facts[fact as usize] += 1;
+    }
+
+    pub fn shown(&mut self, shown: Shown) {
+        self.shown[shown as usize] += 1;
     }
 
     /// Counts the results of one call that went past an end.
@@ -91,19 +102,17 @@ impl Tally {
 
     /// The answer kinds, refusals, causes, facts and results past an end that never occurred, of those that such plans can have.
     pub fn missing(&self, plans: Plans) -> Vec<String> {
-        let (refusals, causes) = match plans {
-            Plans::All => (1..21, &CAUSES[..]),
-            Plans::Old => (1..20, &[][..]),
-        };
-        let kinds = (0..6).filter(|&kind| self.answers.iter().all(|row| row[kind] == 0));
+        let kinds = (0..KINDS.len()).filter(|&kind| self.answers.iter().all(|row| row[kind] == 0));
+        let refusals = (1..22).filter(|&n| plans == Plans::All || n != ADDED);
         let refusals = refusals.filter(|&n| self.refusals[n] == 0);
-        let causes = causes.iter().filter(|c| self.causes[c.0 as usize] == 0);
-        let facts = FACTS.iter().filter(|f| self.facts[f.0 as usize] == 0);
+        let causes = names(&CAUSES).filter(|_| plans == Plans::All);
+        let never = |(name, count): (&str, &u64)| (*count == 0).then(|| name.to_string());
         kinds
             .map(|kind| KINDS[kind].to_string())
             .chain(refusals.map(|n| format!("refusal {n}")))
-            .chain(causes.map(|(_, name)| name.to_string()))
-            .chain(facts.map(|(_, name)| name.to_string()))
+            .chain(causes.zip(&self.causes).filter_map(never))
+            .chain(names(&FACTS).zip(&self.facts).filter_map(never))
+            .chain(names(&SHOWN).zip(&self.shown).filter_map(never))
             .chain(self.never_past())
             .collect()
     }
@@ -116,6 +125,24 @@ impl Tally {
             .map(|(sum, end)| format!("{} past the {} end", SUMS[sum], ENDS[end]))
             .collect()
     }
+}
+
+fn names<T>(list: &'static [(T, &'static str)]) -> impl Iterator<Item = &'static str> {
+    list.iter().map(|(_, name)| *name)
+}
+
+/// A line for each name with its count.
+fn listed<'a>(
+    f: &mut fmt::Formatter,
+    title: &str,
+    names: impl Iterator<Item = &'a str>,
+    counts: &[u64],
+) -> fmt::Result {
+    write!(f, "\n\n{title}")?;
+    for (name, count) in names.zip(counts) {
+        write!(f, "\n  {name}: {count}")?;
+    }
+    Ok(())
 }
 
 fn sizes(made: &Generated) -> [usize; 11] {
@@ -164,14 +191,9 @@ impl fmt::Display for Tally {
             let gap = if number % 7 == 1 { "\n " } else { "" };
             write!(f, "{gap} {number:2}:{count:<7}")?;
         }
-        write!(f, "\n\nby added oracles")?;
-        for ((_, name), count) in CAUSES.iter().zip(self.causes) {
-            write!(f, "\n  {name}: {count}")?;
-        }
-        write!(f, "\n\nby ranks and marks")?;
-        for ((_, name), count) in FACTS.iter().zip(self.facts) {
-            write!(f, "\n  {name}: {count}")?;
-        }
+        listed(f, "by added oracles", names(&CAUSES), &self.causes)?;
+        listed(f, "by ranks and marks", names(&FACTS), &self.facts)?;
+        listed(f, "logs", names(&SHOWN), &self.shown)?;
         write!(f, "\n\nresults past the upper and the lower end")?;
         for (name, [upper, lower]) in SUMS.iter().zip(self.past) {
             write!(f, "\n  {name}: {upper}, {lower}")?;

@@ -2,7 +2,7 @@
 #![allow(unsafe_code)]
 
 use crate::checked::Comparer;
-use crate::engines::Engine;
+use crate::engines::{Engine, Logs};
 use crate::sequences::{Plans, Session};
 
 yard::engine!(
@@ -11,7 +11,9 @@ yard::engine!(
     "wrapping_offered",
     "wrapping_offered_bits",
     "wrapping_try",
-    "wrapping_settle"
+    "wrapping_settle",
+    "wrapping_log",
+    "wrapping_log_index"
 );
 
 const WRAPPING: Engine = Engine {
@@ -22,6 +24,10 @@ const WRAPPING: Engine = Engine {
     bits: offered_bits,
     attempt,
     settle,
+    logs: Some(Logs {
+        check: log,
+        index: log_index,
+    }),
 };
 
 #[test]

@@ -18,11 +18,23 @@ pub enum Refusal {
     OtherPlan = 12,
     State = 13,
     FalseMark = 14,
+    OddLog = 21,
     BadStart = 15,
     NoSuchMove = 16,
     NotEnabled = 17,
     Outranked = 18,
     Marked = 19,
+}
+
+/// Why an entry of a log is wrong; the first that applies, in the order of this list, is the answer.
+#[derive(Clone, Copy, Debug, PartialEq, Eq)]
+pub enum Cause {
+    NoSuchMove = 16,
+    NotEnabled = 17,
+    /// An enabled interaction that ends good lies above it.
+    Outranked = 18,
+    /// It ends bad.
+    Bad = 0,
 }
 
 #[derive(Clone, Copy, Debug, PartialEq, Eq)]
@@ -33,6 +45,7 @@ pub enum Answer {
     Stalled,
     Penned,
     Refused(Refusal),
+    Wrong(Cause),
 }
 
 impl Answer {
@@ -44,6 +57,7 @@ impl Answer {
             Answer::Stalled => 3,
             Answer::Penned => 4,
             Answer::Refused(_) => 5,
+            Answer::Wrong(_) => 6,
         }
     }
 
@@ -51,6 +65,7 @@ impl Answer {
         match self {
             Answer::Committed(interaction) | Answer::Cancelled(interaction) => interaction as u32,
             Answer::Refused(refusal) => refusal as u32,
+            Answer::Wrong(cause) => cause as u32,
             Answer::Accepted | Answer::Stalled | Answer::Penned => 0,
         }
     }

@@ -8,5 +8,6 @@ pub mod code;
 pub mod draft;
 pub mod image;
 pub mod lane;
+pub mod log;
 pub mod plan;
 pub mod sums;

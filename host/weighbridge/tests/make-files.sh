@@ -1,5 +1,5 @@
 #!/usr/bin/env bash
-# make-files.sh PLANS: writes the plans and images that the scripts use into the current directory.
+# make-files.sh PLANS: writes the plans, images and logs that the scripts use into the current directory.
 # Each damaged file is the sample plan, or its starting image, with a few bytes replaced; for added oracles those of the wet bales.
 set -eu
 
@@ -194,3 +194,25 @@ image tared.image 24 01 , 40 00 , 56 28 23
 # Lanes of old-mark.plan, with a mark on move 1 and without.
 image old-mark.image 16 02 , 56 ff ff ff 7f
 image old-unmarked.image 56 ff ff ff 7f
+
+# Logs of the sample lane, 2 bytes an entry.
+log() {
+  local to=$1 bytes=""
+  shift
+  for byte; do bytes+="\\x$byte"; done
+  printf "$bytes" > "$to"
+}
+: > empty.log
+log two-rounds.log 01 00 00 00 02 00 01 00 00 00 02 00
+log first-move.log 01 00
+log 21-one-byte.log 01
+log 21-cut-off.log 01 00 00 00 02
+log 16-next.log 01 00 03 00
+log 16-high-byte.log 01 01
+log 16-greatest.log 01 00 00 00 02 00 ff ff
+log 17-at-once.log 02 00
+log 17-later.log 01 00 00 00 00 00 02 00
+log bad-at-once.log 00 00
+log bad-later.log 01 00 00 00 02 00 00 00 02 00
+zeros 16777216 > longest.log
+zeros 16777217 > too-long.log

@@ -1,6 +1,6 @@
 #!/usr/bin/env bash
-# run.sh PROGRAM: runs every script NAME.in and compares what is printed with NAME.out, and each image NAME that a script saves
-# with NAME.hex. A script's first line may name the plan to begin with; else it is the sample.
+# run.sh PROGRAM: runs every script NAME.in and compares what is printed with NAME.out, and each image or log NAME that a script
+# saves with NAME.hex. A script's first line may name the plan to begin with; else it is the sample.
 set -eu
 program=$(realpath "$1")
 tests=$(cd "$(dirname "${BASH_SOURCE[0]}")" && pwd)
@@ -24,14 +24,14 @@ for script in "$tests"/*.in; do
   scripts=$((scripts + 1))
 done
 
-images=0
+saved=0
 for hex in "$tests"/*.hex; do
   name=$(basename "$hex" .hex)
-  od -An -tx1 "$name" | diff "$hex" - || fail "saved image $name"
-  images=$((images + 1))
+  od -An -tx1 "$name" | diff "$hex" - || fail "saved file $name"
+  saved=$((saved + 1))
 done
 
-for number in {1..20}; do
+for number in {1..21}; do
   grep -q "^refused $number: " ./*.got || fail "no script is refused with $number"
 done
 
@@ -42,5 +42,19 @@ status=0
 echo offered | "$program" sample.plan > /dev/full || status=$?
 [ $status -eq 1 ] || fail "answers that cannot be written"
 
-echo "$scripts scripts, $images saved images, 2 calls: $failed failed"
+for cause in 16 17 18 bad; do
+  grep -q "^entry [0-9]*: $cause, " ./*.got || fail "no entry of a log is wrong by $cause"
+done
+
+# As many moves as are kept, and one more.
+{ yes settle | head -n 524288; printf '%s\n' 'moves most.log' 'log most.log' settle 'moves too-many.log'; } |
+  "$program" sample.plan | tail -n 4 > most.got
+diff - most.got <<'END' || fail "the most moves that are kept"
+moves saved
+log accepted
+move 2 is done
+the moves from the start on are not known: the lane was loaded, the plan changed, or there were too many
+END
+
+echo "$scripts scripts, $saved saved files, 3 calls: $failed failed"
 [ $failed -eq 0 ]

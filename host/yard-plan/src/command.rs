@@ -4,24 +4,27 @@ use std::ffi::OsString;
 use std::path::Path;
 
 use crate::read::{self, Meant};
-use crate::{faults, image, report, show, start};
+use crate::{faults, image, log, report, show, start};
 
 /// Status where a file cannot be read, the usage is wrong, or the output cannot be written.
 pub const FAILED: u8 = 2;
 
-const USAGE: &str = "usage: yard-plan show FILE | check FILE | image PLAN IMAGE | --help";
+const USAGE: &str =
+    "usage: yard-plan show FILE | check FILE | image PLAN IMAGE | log PLAN LOG | --help";
 
 const HELP: &str = "\
 usage: yard-plan COMMAND, where COMMAND is one of
   show FILE         prints a plan's tables, code as expressions
   check FILE        says whether a plan is accepted; if not, every fault with its record, byte, rule and cure
   image PLAN IMAGE  shows a lane: locations, last ports, values, marks, what is on offer and what is held down; if it is refused, every fault with its byte and cure
+  log PLAN LOG      says whether a log of moves, 2 bytes each with the lowest first, is a run from the start; if not, the first wrong entry, from 0, and its cause
   --help, -h        prints this
 status
   0  accepted
   1  refused
   2  a file cannot be read, the usage is wrong, or the output cannot be written
   3  the library and the explanation differ: the library's answer counts
+  4  an entry of a log is wrong
 ";
 
 /// What a command leaves: standard output, standard error and the status.
@@ -62,6 +65,10 @@ fn answer(arguments: &[OsString]) -> Result<(String, u8), String> {
         (Some("image"), [_, plan, image]) => Ok(image::show(
             &file(plan, Meant::Plan)?,
             &file(image, Meant::Image)?,
+        )),
+        (Some("log"), [_, plan, log]) => Ok(log::check(
+            &file(plan, Meant::Plan)?,
+            &file(log, Meant::Log)?,
         )),
         _ => Err(USAGE.to_string()),
     }

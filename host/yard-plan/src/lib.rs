@@ -1,4 +1,4 @@
-//! What a planner wants to know of a plan or an image: what it says, and what is wrong with it.
+//! What a planner wants to know of a plan, an image or a log: what it says, and what is wrong with it.
 //! The numbers are the library's own answers; the analysis here explains them.
 #![forbid(unsafe_code)]
 
@@ -9,7 +9,9 @@ pub mod faults;
 pub mod image;
 pub mod judged;
 pub mod layout;
+pub mod log;
 pub mod mend;
+pub mod moves;
 pub mod read;
 pub mod report;
 pub mod show;

@@ -1,4 +1,4 @@
-//! `yard-plan show FILE`, `yard-plan check FILE`, `yard-plan image PLAN IMAGE`.
+//! `yard-plan show FILE`, `yard-plan check FILE`, `yard-plan image PLAN IMAGE`, `yard-plan log PLAN LOG`.
 #![forbid(unsafe_code)]
 
 use std::ffi::OsString;

@@ -7,14 +7,22 @@ use std::path::Path;
 use crate::layout::MOST_BYTES;
 use crate::text::thousands;
 
-/// Larger files are not read.
-pub const MOST_READ: u64 = 1 << 20;
-
 /// What a file is meant to be.
 #[derive(Clone, Copy, Debug, PartialEq, Eq)]
 pub enum Meant {
     Plan,
     Image,
+    Log,
+}
+
+impl Meant {
+    /// Files with more bytes are not read.
+    fn most(self) -> u64 {
+        match self {
+            Meant::Plan | Meant::Image => 1 << 20,
+            Meant::Log => 1 << 28,
+        }
+    }
 }
 
 /// The file's bytes, or one line that names the file and says why not.
@@ -33,22 +41,21 @@ fn read(path: &Path, meant: Meant) -> Result<Vec<u8>, String> {
     if metadata.is_dir() {
         return Err("is a directory".to_string());
     }
-    if metadata.len() > MOST_READ {
+    let most = meant.most();
+    if metadata.len() > most {
         return Err(too_large(&format!("{} bytes", metadata.len()), meant));
     }
-    let bytes = bounded(path).map_err(reason)?;
-    if bytes.len() as u64 > MOST_READ {
-        return Err(too_large(&format!("more than {MOST_READ} bytes"), meant));
+    let bytes = bounded(path, most).map_err(reason)?;
+    if bytes.len() as u64 > most {
+        return Err(too_large(&format!("more than {most} bytes"), meant));
     }
     Ok(bytes)
 }
 
 /// At most one byte more than is allowed, which tells that there are more.
-fn bounded(path: &Path) -> io::Result<Vec<u8>> {
+fn bounded(path: &Path, most: u64) -> io::Result<Vec<u8>> {
     let mut bytes = Vec::new();
-    File::open(path)?
-        .take(MOST_READ + 1)
-        .read_to_end(&mut bytes)?;
+    File::open(path)?.take(most + 1).read_to_end(&mut bytes)?;
     Ok(bytes)
 }
 
@@ -61,6 +68,10 @@ fn too_large(size: &str, meant: Meant) -> String {
         Meant::Image => {
             let length = yard::IMAGE_BYTES;
             format!("{size}: too large to be an image, which has {length}")
+        }
+        Meant::Log => {
+            let most = thousands(meant.most() as usize);
+            format!("{size}: too large for a log, which may have {most} here")
         }
     }
 }

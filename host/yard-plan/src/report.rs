@@ -4,11 +4,13 @@ use std::fmt::Write;
 
 use crate::faults::{Analysis, Fault};
 
-/// Status of a plan or image that is accepted.
+/// Status of a plan, image or log that is accepted.
 pub const ACCEPTED: u8 = 0;
 pub const REFUSED: u8 = 1;
 /// The library's number is not the one that the analysis finds.
 pub const DIFFERENT: u8 = 3;
+/// An entry of a log is wrong.
+pub const WRONG: u8 = 4;
 
 /// The refusal's number of an answer; 0 for accepted.
 pub fn number(answer: yard::Answer) -> u32 {

@@ -9,7 +9,7 @@ use reference::plan::Plan;
 use crate::report::{number, says, ACCEPTED, DIFFERENT};
 use crate::text::oracle_state;
 
-const BAD_START: u32 = 15;
+pub const BAD_START: u32 = 15;
 
 /// Nothing where the library starts a lane; else its refusal, the cause and the cure. The status is that of the plan.
 pub fn told(plan: &[u8]) -> (String, u8) {
@@ -41,7 +41,7 @@ fn explained(number: u32, cause: Option<(String, String)>) -> (String, u8) {
 }
 
 /// Why the starting state is bad and what would cure it; none where it is good.
-fn cause(plan: &[u8]) -> Option<(String, String)> {
+pub fn cause(plan: &[u8]) -> Option<(String, String)> {
     let plan = Plan::read(plan).ok()?;
     let lane = Lane::start(&plan);
     let bad = (0..plan.oracles.len()).filter(|&n| is_bad(&plan, n, lane.oracles[n]));

@@ -1,12 +1,12 @@
 //! Runs every NAME.case of tests/cases on the program and compares its output and status with NAME.out.
 //!
-//! A case's first line that is no note (#) is the command: show, check or image. The lines after it make its files, in their order:
+//! A case's first line that is no note (#) is the command: show, check, image or log. The lines after it make its files, in their order:
 //!   from NAME            begin with plans/NAME.plan; else it is the sample
 //!   start, settle, try N the library writes the image
 //!   plan AT BYTES        writes bytes, in hex, into the plan
 //!   plan length N        cuts the plan off or adds zeros
 //!   plan append BYTES    adds bytes behind
-//! and the same three with `image`, which is empty at first;
+//! and the same three with `image` and with `log`, which are empty at first;
 //!   swap                 the image's bytes become the plan's, and the plan's the image's
 
 use std::collections::BTreeMap;
@@ -29,6 +29,7 @@ fn sample(name: &str) -> Vec<u8> {
 struct Files {
     plan: Vec<u8>,
     image: Vec<u8>,
+    log: Vec<u8>,
 }
 
 impl Files {
@@ -50,6 +51,7 @@ impl Files {
             ["swap"] => std::mem::swap(&mut self.plan, &mut self.image),
             ["plan", ref change @ ..] => edit(&mut self.plan, change),
             ["image", ref change @ ..] => edit(&mut self.image, change),
+            ["log", ref change @ ..] => edit(&mut self.log, change),
             _ => panic!("not understood: {line}"),
         }
     }
@@ -76,16 +78,22 @@ fn run(case: &str, work: &Path) -> String {
     let mut files = Files {
         plan: sample("sample"),
         image: Vec::new(),
+        log: Vec::new(),
     };
     lines.for_each(|line| files.line(line));
     fs::create_dir_all(work).unwrap();
-    let (plan, image) = (work.join("the.plan"), work.join("the.image"));
-    fs::write(&plan, &files.plan).unwrap();
-    fs::write(&image, &files.image).unwrap();
     let mut program = Command::new(env!("CARGO_BIN_EXE_yard-plan"));
-    program.arg(command).arg(plan);
-    if command == "image" {
-        program.arg(image);
+    program.arg(command);
+    for (name, bytes) in [
+        ("plan", &files.plan),
+        ("image", &files.image),
+        ("log", &files.log),
+    ] {
+        let path = work.join(format!("the.{name}"));
+        fs::write(&path, bytes).unwrap();
+        if name == "plan" || name == command {
+            program.arg(path);
+        }
     }
     let done = program.output().unwrap();
     assert_eq!(String::from_utf8_lossy(&done.stderr), "");
@@ -112,7 +120,7 @@ fn cases() -> io::Result<BTreeMap<String, String>> {
 fn every_case_prints_what_is_stored() {
     let work = Path::new(env!("CARGO_TARGET_TMPDIR")).join("cases");
     let mut differing = Vec::new();
-    let mut refusals = [0; 21];
+    let mut refusals = [0; 22];
     for (name, case) in cases().unwrap() {
         let got = run(&case, &work);
         let stored = fs::read_to_string(folder().join(format!("{name}.out"))).unwrap_or_default();
@@ -122,7 +130,7 @@ fn every_case_prints_what_is_stored() {
         }
         let number = got
             .strip_prefix("refused ")
-            .and_then(|rest| rest.lines().next());
+            .and_then(|rest| rest.split([':', '\n']).next());
         refusals[number.map_or(0, |number| number.parse().unwrap())] += 1;
     }
     assert!(
@@ -131,7 +139,7 @@ fn every_case_prints_what_is_stored() {
         work.display()
     );
     println!("cases by refusal: {refusals:?}");
-    assert!((1..15).chain([20]).all(|n: usize| refusals[n] >= 2));
+    assert!((1..16).chain([20, 21]).all(|n: usize| refusals[n] >= 2));
 }
 
 #[test]

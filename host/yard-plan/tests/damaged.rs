@@ -1,10 +1,12 @@
-//! Damaged plans and images of the comparison's generator: the analysis finds the library's number, and its mends cure.
+//! Damaged plans, images and logs of the comparison's generator: the analysis finds the library's number, and its mends cure.
 
 use compare::rng::Rng;
+use compare::runs::Run;
 use compare::{damage, generate, images};
+use reference::plan::Plan;
 use yard_plan::faults::{self, Fault, ORDER};
 use yard_plan::mend::Mend;
-use yard_plan::{command, image, report, show};
+use yard_plan::{command, image, log, report, show};
 
 const PLANS: usize = 10_000;
 const IMAGES: usize = 10_000;
@@ -213,8 +215,51 @@ fn the_first_number_of_an_image_is_the_librarys_and_single_faults_are_cured() {
     assert_eq!(missing, []);
 }
 
+/// What the line on a log may be, with its status.
+const LINES: [(&str, &str, u8); 10] = [
+    ("accepted", "", 0),
+    ("refused 21: ", ", an odd number, ", 1),
+    ("refused 15: ", " which is bad", 1),
+    ("entry ", ": 16, the plan has ", 4),
+    ("entry ", " is not enabled: its guard is false: ", 4),
+    ("entry ", " has no transition from location ", 4),
+    ("entry ", " has a true guard", 4),
+    ("entry ", " lies above ", 4),
+    ("entry ", " lie above ", 4),
+    ("entry ", ": bad, interaction ", 4),
+];
+
+/// A run of a lawful plan, whole or spoilt.
+fn log_of(rng: &mut Rng, plan: &[u8]) -> Vec<u8> {
+    let most = rng.below(8);
+    let run = Run::new(rng, Plan::read(plan).unwrap(), most);
+    match rng.chance(20) {
+        true => run.log(),
+        false => run.spoilt(rng),
+    }
+}
+
 #[test]
-fn no_plan_and_no_image_makes_a_command_panic() {
+fn a_log_is_told_in_one_line_on_which_library_and_reference_agree() {
+    let mut rng = Rng::new(20);
+    let mut met = [0; LINES.len()];
+    for _ in 0..5_000 {
+        let plan = generate::plan(&mut rng).draft.bytes();
+        let log = log_of(&mut rng, &plan);
+        let (output, status) = log::check(&plan, &log);
+        let is = |(start, part, with): &(&str, &str, u8)| {
+            output.starts_with(start) && output.contains(part) && status == *with
+        };
+        let found = LINES.iter().position(is);
+        met[found.unwrap_or_else(|| panic!("{output}status {status}"))] += 1;
+        assert_eq!(output.lines().count(), 1, "{output}");
+    }
+    println!("logs by line: {met:?}");
+    assert!(met.iter().all(|&count| count > 0));
+}
+
+#[test]
+fn no_plan_no_image_and_no_log_makes_a_command_panic() {
     let mut rng = Rng::new(14);
     for _ in 0..2_000 {
         let lawful = generate::plan(&mut rng).draft;
@@ -238,6 +283,12 @@ fn no_plan_and_no_image_makes_a_command_panic() {
         }
         let (output, status) = image::show(&plan, &image);
         assert!(output.starts_with("refused ") && status == 1);
+        let (output, status) = log::check(&plan, &image);
+        assert_eq!(
+            output.lines().next() == Some(&first[..]),
+            number != 0 || status == 0
+        );
+        assert!(status != report::DIFFERENT);
     }
 }
 

@@ -7,7 +7,7 @@ use std::path::{Path, PathBuf};
 use std::process::{Command, Output, Stdio};
 
 const USAGE: &str =
-    "yard-plan: usage: yard-plan show FILE | check FILE | image PLAN IMAGE | --help\n";
+    "yard-plan: usage: yard-plan show FILE | check FILE | image PLAN IMAGE | log PLAN LOG | --help\n";
 const UNWRITTEN: &str = "yard-plan: standard output cannot be written\n";
 
 fn program() -> Command {
@@ -38,18 +38,26 @@ fn assert_failed(done: &Output, line: &str) {
     assert_eq!(done.status.code(), Some(2));
 }
 
+/// The command on the sample and the file.
+fn assert_second_unreadable(command: &str, path: &Path, line: &str) {
+    let line = format!("yard-plan: {}: {line}\n", path.display());
+    assert_failed(&run(&[command.as_ref(), sample().as_path(), path]), &line);
+}
+
 /// Every command with the file as plan, and as image.
 fn assert_unreadable(path: &Path, reason: &str) {
     let line = format!("yard-plan: {}: {reason}\n", path.display());
     for command in ["show", "check"] {
         assert_failed(&run(&[command.as_ref(), path]), &line);
     }
-    assert_failed(&run(&["image".as_ref(), path, &sample()]), &line);
-    let line = line.replace(
+    for command in ["image", "log"] {
+        assert_failed(&run(&[command.as_ref(), path, &sample()]), &line);
+    }
+    let reason = reason.replace(
         "be a plan, which has at most 16,128",
         "be an image, which has 312",
     );
-    assert_failed(&run(&["image".as_ref(), sample().as_path(), path]), &line);
+    assert_second_unreadable("image", path, &reason);
 }
 
 #[test]
@@ -64,7 +72,44 @@ fn an_empty_file_is_refused_as_any_other() {
         let done = run(&["image".as_ref(), sample().as_path(), path]);
         assert!(done.stdout.starts_with(b"refused 11\n"));
         assert_eq!(done.status.code(), Some(1));
+        let done = run(&["log".as_ref(), sample().as_path(), path]);
+        assert_eq!(
+            (done.stdout, done.status.code()),
+            (b"accepted\n".to_vec(), Some(0))
+        );
     }
+}
+
+#[test]
+fn logs_that_cannot_be_read() {
+    for (path, reason) in [
+        (Path::new(""), "there is no such file"),
+        (Path::new(env!("CARGO_TARGET_TMPDIR")), "is a directory"),
+        (
+            Path::new("/dev/zero"),
+            "more than 268435456 bytes: too large for a log, which may have 268,435,456 here",
+        ),
+    ] {
+        assert_second_unreadable("log", path, reason);
+    }
+}
+
+/// Its first entry, 0, ends bad.
+#[test]
+fn a_log_may_have_256_mebibytes() {
+    let path = written("large.log", b"");
+    let file = File::options().write(true).open(&path).unwrap();
+    file.set_len(1 << 28).unwrap();
+    let done = run(&["log".as_ref(), sample().as_path(), &path]);
+    assert!(done.stdout.starts_with(b"entry 0: bad, "));
+    assert_eq!(done.status.code(), Some(4));
+    file.set_len((1 << 28) + 1).unwrap();
+    assert_second_unreadable(
+        "log",
+        &path,
+        "268435457 bytes: too large for a log, which may have 268,435,456 here",
+    );
+    fs::remove_file(path).unwrap();
 }
 
 #[test]
@@ -140,12 +185,14 @@ fn a_file_without_permission() {
 
 #[test]
 fn wrong_usage() {
-    let wrong: [&[&str]; 11] = [
+    let wrong: [&[&str]; 13] = [
         &[],
         &["show"],
         &["check", "a", "b"],
         &["image", "a"],
         &["image", "a", "b", "c"],
+        &["log", "a"],
+        &["log", "a", "b", "c"],
         &["mend", "a"],
         &["help"],
         &["--Help"],
@@ -170,10 +217,15 @@ fn help_names_every_command_and_status() {
         let done = run(arguments);
         let output = String::from_utf8(done.stdout).unwrap();
         let begins = |start: &str| output.lines().filter(|l| l.starts_with(start)).count();
-        for line in ["  show FILE ", "  check FILE ", "  image PLAN IMAGE "] {
+        for line in [
+            "  show FILE ",
+            "  check FILE ",
+            "  image PLAN IMAGE ",
+            "  log PLAN LOG ",
+        ] {
             assert_eq!(begins(line), 1, "{line}");
         }
-        for status in ["  0  ", "  1  ", "  2  ", "  3  "] {
+        for status in ["  0  ", "  1  ", "  2  ", "  3  ", "  4  "] {
             assert_eq!(begins(status), 1, "{status}");
         }
         assert_eq!((done.stderr, done.status.code()), (vec![], Some(0)));
@@ -205,10 +257,16 @@ fn output_that_cannot_be_written_is_told() {
     let full = File::options().write(true).open("/dev/full").unwrap();
     let read_only = File::open("/dev/null").unwrap();
     let sample = sample();
+    let plan = sample.as_os_str();
+    let asked: [&[&OsStr]; 4] = [
+        &["check".as_ref(), plan],
+        &["show".as_ref(), plan],
+        &["log".as_ref(), plan, "/dev/null".as_ref()],
+        &["--help".as_ref()],
+    ];
     for output in [full, read_only] {
-        for command in ["check", "show", "--help"] {
-            let arguments = [command.as_ref(), sample.as_os_str()];
-            let done = run_into(&arguments, output.try_clone().unwrap());
+        for arguments in asked {
+            let done = run_into(arguments, output.try_clone().unwrap());
             assert_eq!(String::from_utf8_lossy(&done.stderr), UNWRITTEN);
             assert_eq!(done.status.code(), Some(2));
         }

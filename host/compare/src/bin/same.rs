@@ -1,6 +1,7 @@
 //! Compares every call of libyard.a with that of an older build as well, whose calls are named old_; with --old on plans without added oracles alone.
 //! By the older build an interaction that ends bad may hold others down, marked or not. It is left out of the calls on a lane in which the reference sees an enabled interaction above
 //! another, where alone that can be told, and it is said how many these are and in how many it differs. In all others its answer and image must be the same.
+//! It has no calls on logs, and is not asked for any.
 
 use std::process::ExitCode;
 
@@ -27,6 +28,7 @@ const OLD: Engine = Engine {
     bits: old::offered_bits,
     attempt: old::attempt,
     settle: old::settle,
+    logs: None,
 };
 
 fn main() -> ExitCode {

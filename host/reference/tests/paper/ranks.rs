@@ -8,7 +8,7 @@ use End::*;
 
 /// What a move from the start leads to; without a transition there it is not enabled.
 #[derive(Clone, Copy, Debug, PartialEq, Eq)]
-enum End {
+pub enum End {
     Good,
     Bad,
     NotEnabled,
@@ -17,7 +17,7 @@ enum End {
 const ENDS: [End; 3] = [Good, Bad, NotEnabled];
 
 /// A lane whose moves end so from the start, with the ranks of each as bits.
-fn fork(ends: &[End], ranks: &[u64]) -> Draft {
+pub fn fork(ends: &[End], ranks: &[u64]) -> Draft {
     let mut plan = sample();
     let to = |port: u8, end| match end {
         Good => Some(transition(0, port, 1, EMPTY)),
@@ -131,7 +131,7 @@ fn nothing_enabled_is_stalled_whatever_the_ranks() {
 }
 
 /// Visits three moves with all their ends under every strict order.
-fn every_fork(mut visit: impl FnMut(&Draft, &[End; 3], &[u64; 3])) {
+pub fn every_fork(mut visit: impl FnMut(&Draft, &[End; 3], &[u64; 3])) {
     for rows in 0..1_u64 << 9 {
         let ranks = [0, 3, 6].map(|at| rows >> at & 0b111);
         for ends in (0..27).map(|n| [1, 3, 9].map(|digit| ENDS[n / digit % 3])) {

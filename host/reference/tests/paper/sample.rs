@@ -4,6 +4,7 @@ use reference::answer::{Answer, Refusal};
 use reference::calls;
 use reference::draft::{Component, Draft, Interaction, OracleState, Span, Transition, Variable};
 use reference::image::IMAGE_BYTES;
+use reference::log;
 
 pub type Image = [u8; IMAGE_BYTES];
 
@@ -127,6 +128,19 @@ pub fn offered(draft: &Draft, image: &Image) -> (Answer, u64) {
     calls::offered(&draft.bytes(), image)
 }
 
+/// The moves as a log.
+pub fn log_of(moves: &[u16]) -> Vec<u8> {
+    moves
+        .iter()
+        .flat_map(|number| number.to_le_bytes())
+        .collect()
+}
+
+/// The answer to a log of these moves, and the index.
+pub fn logged(draft: &Draft, moves: &[u16]) -> (Answer, u64) {
+    log::check(&draft.bytes(), &log_of(moves))
+}
+
 pub fn marks(image: &Image) -> u64 {
     u64::from_le_bytes(image[16..24].try_into().unwrap())
 }
@@ -135,7 +149,7 @@ pub fn value(image: &Image, n: usize) -> i32 {
     i32::from_le_bytes(image[56 + 4 * n..][..4].try_into().unwrap())
 }
 
-/// The image and start calls on a refused plan change no byte.
+/// The image and start calls on a refused plan change no byte; a log, odd or not, makes no difference.
 pub fn assert_plan_refused(plan: &[u8], refusal: Refusal) {
     let mut image = started(&sample());
     let before = image;
@@ -146,6 +160,9 @@ pub fn assert_plan_refused(plan: &[u8], refusal: Refusal) {
     assert_eq!(calls::attempt(plan, &mut image, 1), refused);
     assert_eq!(calls::settle(plan, &mut image), refused);
     assert_eq!(image, before);
+    for log in [&[][..], &[1, 0], &[1]] {
+        assert_eq!(log::check(plan, log), (refused, 0));
+    }
 }
 
 /// The sample's calls on a refused image change no byte.

@@ -2,8 +2,8 @@
 
 use std::fmt::Display;
 
-/// Each refusal of the header, with words that its rule alone has.
-const REFUSALS: [(&str, &str); 20] = [
+/// Each refusal of the header, with words that its rule alone has; 18 means something else for an entry of a log.
+const REFUSALS: [(&str, &str); 22] = [
     ("YARD_BAD_HEAD", "headOk"),
     ("YARD_BAD_COUNT", "countsOk"),
     ("YARD_BAD_LAYOUT", "layoutOk"),
@@ -19,10 +19,12 @@ const REFUSALS: [(&str, &str); 20] = [
     ("YARD_OTHER_PLAN", "headMatches"),
     ("YARD_BAD_STATE", "configurationOk"),
     ("YARD_FALSE_MARK", "marksOk"),
+    ("YARD_ODD_LOG", "length l % 2"),
     ("YARD_BAD_START", "good p (initial p)"),
     ("YARD_NO_SUCH_MOVE", "ltb i (interactions p)"),
     ("YARD_NOT_ENABLED", "enabled p"),
     ("YARD_OUTRANKED", "outranked p"),
+    ("YARD_OUTRANKED", "dominated p"),
     ("YARD_MARKED", "bit (marksOf b) i"),
 ];
 
@@ -67,30 +69,49 @@ pub fn named<T: Display + PartialEq>(
     found
 }
 
-/// The refusals against the rules: each rule has one name and its own number, in the order of the rules.
-pub fn refusals(header: &[(String, u32)], rules: &[(u32, String)]) -> Vec<String> {
-    let name_of = |text: &str| REFUSALS.iter().find(|(_, words)| text.contains(words));
-    let mut wanted = Vec::new();
+type Rules = [(u32, String)];
+
+/// The refusals against the rules: each rule has one name and its own number, in the order of the rules. The lists of a log's rules may name the same
+/// ones again, each in an order of its own.
+pub fn refusals(
+    header: &[(String, u32)],
+    rules: &Rules,
+    logs: &[Vec<(u32, String)>],
+) -> Vec<String> {
     let mut found = Vec::new();
-    for (number, text) in rules {
-        match name_of(text) {
+    let mut wanted = Vec::new();
+    for (number, text) in rules.iter().chain(logs.iter().flatten()) {
+        match REFUSALS.iter().find(|(_, words)| text.contains(words)) {
+            Some((name, _)) if wanted.contains(&(name.to_string(), *number)) => {}
             Some((name, _)) => wanted.push((name.to_string(), *number)),
             None => found.push(format!("rule {number} has no name: {text}")),
         }
-        if rules.iter().filter(|(other, _)| other == number).count() != 1 {
-            found.push(format!("{number} is the number of two rules"));
-        }
     }
-    let place = |number: u32| rules.iter().position(|(other, _)| *other == number);
-    let turned = |pair: &&[(String, u32)]| match (place(pair[0].1), place(pair[1].1)) {
-        (Some(first), Some(second)) => first >= second,
-        _ => false,
-    };
-    for pair in header.windows(2).filter(turned) {
-        found.push(format!("{} stands before {}", pair[0].0, pair[1].0));
+    let twice = |number: &u32| rules.iter().filter(|(other, _)| other == number).count() > 1;
+    let numbers = rules.iter().map(|(number, _)| number);
+    found.extend(
+        numbers
+            .filter(|number| twice(number))
+            .map(|number| format!("{number} is the number of two rules")),
+    );
+    for list in [rules].into_iter().chain(logs.iter().map(Vec::as_slice)) {
+        found.extend(turned(header, list));
     }
     found.extend(named(header, &wanted));
     found
+}
+
+/// The neighbours among the header's refusals of a list that stand the other way round there.
+fn turned(header: &[(String, u32)], list: &Rules) -> Vec<String> {
+    let place = |number: u32| list.iter().position(|(other, _)| *other == number);
+    let listed = header
+        .iter()
+        .filter_map(|(name, number)| Some((name, place(*number)?)));
+    let listed = Vec::from_iter(listed);
+    let turned = listed.windows(2).filter(|pair| pair[0].1 >= pair[1].1);
+    turned
+        .map(|pair| format!("{} stands before {}", pair[0].0, pair[1].0))
+        .collect()
 }
 
 /// Both texts are fixed, so that neither changes without the other.

@@ -19,10 +19,11 @@ struct Texts {
     header: String,
     /// crates/yard/src/lib.rt
     source: String,
-    /// Three of crates/semantics/specs.
+    /// Four of crates/semantics/specs.
     rules: String,
     image: String,
     calls: String,
+    log: String,
 }
 
 impl Texts {
@@ -33,6 +34,7 @@ impl Texts {
             rules: include_str!("../../../../crates/semantics/specs/Rules.antt").into(),
             image: include_str!("../../../../crates/semantics/specs/Image.antt").into(),
             calls: include_str!("../../../../crates/semantics/specs/Calls.antt").into(),
+            log: include_str!("../../../../crates/semantics/specs/Log.antt").into(),
         }
     }
 
@@ -46,11 +48,16 @@ impl Texts {
         if !header.enums.iter().map(|(name, _)| name).eq(ENUMS) {
             return Err("the header's enumerations are other ones".into());
         }
+        let kinds = [&self.calls, &self.log].map(|text| specs::kinds(text));
         let rules = [&self.rules, &self.image, &self.calls].map(|text| specs::rules(text));
         Ok([
             differences::named(&header.functions, &rattle::exported(&self.source)?),
-            differences::named(header.list("yard_kind"), &specs::kinds(&self.calls)),
-            differences::refusals(header.list("yard_refusal"), &rules.concat()),
+            differences::named(header.list("yard_kind"), &kinds.concat()),
+            differences::refusals(
+                header.list("yard_refusal"),
+                &rules.concat(),
+                &specs::rule_lists(&self.log),
+            ),
             differences::named(header.list(""), &specs::length(&self.image)?),
             differences::named(
                 header.list("yard_image_place"),
@@ -77,6 +84,7 @@ fn the_crate_for_rust_has_the_numbers_of_the_header() {
         ("YARD_STALLED", yard::STALLED),
         ("YARD_PENNED", yard::PENNED),
         ("YARD_REFUSED", yard::REFUSED),
+        ("YARD_WRONG", yard::WRONG),
     ];
     assert_eq!(
         header.list("yard_kind"),

@@ -29,17 +29,27 @@ source | interaction: u32 | interaction: Move | yard_try of the source cannot be
 # another result
 header | uint64_t yard_offered_bits | uint32_t yard_offered_bits | yard_offered_bits: the header has uint32_t
 source | interaction: u32) -> u32 | interaction: u32) -> u64 | yard_try: the header has uint32_t
+# a log's calls
+source | fn yard_log( | fn yard_logs( | yard_logs is not in the header; yard_log: the header alone has
+header | uint64_t yard_log_index | uint32_t yard_log_index | yard_log_index: the header has uint32_t
+source | yard_log(plan: &[u8], log: &[u8]) | yard_log(plan: &[u8], log: &mut [u8]) | yard_log: the header has
 # another kind
 header | YARD_PENNED = 4 | YARD_PENNED = 6 | YARD_PENNED: the header has 6, wanted: 4
 calls | penned = record { kind = 4 | penned = record { kind = 3 | YARD_PENNED: the header has 4, wanted: 3
 header | YARD_STALLED = 3, |  | YARD_STALLED is not in the header, wanted: 3
 header | YARD_REFUSED = 5 | YARD_REFUSED = 5, YARD_LATE = 6 | YARD_LATE: the header alone has 6
+header | YARD_WRONG = 6 | YARD_WRONG = 7 | YARD_WRONG: the header has 7, wanted: 6
+log | record { kind = 6 | record { kind = 5 | YARD_WRONG: the header has 6, wanted: 5
 # another refusal number
 header | YARD_MARKED = 19 | YARD_MARKED = 28 | YARD_MARKED: the header has 28, wanted: 19
 header | YARD_BAD_HEAD = 1 | YARD_BAD_HEAD = 2 | YARD_BAD_HEAD stands before YARD_BAD_COUNT; YARD_BAD_HEAD: the header has 2, wanted: 1
 rules | rule 9 ( | rule 8 ( | 8 is the number of two rules; 8 is the number of two rules; YARD_BAD_ORACLE: the header has 9, wanted: 8
 calls | rule 15 ( | rule 28 ( | YARD_BAD_START: the header has 15, wanted: 28
+log | rule 21 ( | rule 22 ( | YARD_ODD_LOG: the header has 21, wanted: 22
+log | rule 15 ( | rule 28 ( | YARD_BAD_START: the header has 15, wanted: 28
+log | rule 18 (not | rule 28 (not | YARD_OUTRANKED: the header has 18, wanted: 28
 # two rules with each other's numbers
+log | rule 16 (ltb i (interactions p)) ∷ rule 17 (enabled p (c .state) i) | rule 17 (ltb i (interactions p)) ∷ rule 16 (enabled p (c .state) i) | YARD_NO_SUCH_MOVE stands before YARD_NOT_ENABLED; YARD_NO_SUCH_MOVE: the header has 16, wanted: 17; YARD_NOT_ENABLED: the header has 17, wanted: 16
 rules | (headOk p) ∷ rule 2 (countsOk p) | (countsOk p) ∷ rule 2 (headOk p) | YARD_BAD_COUNT: the header has 2, wanted: 1; YARD_BAD_HEAD: the header has 1, wanted: 2
 rules | rule 9 (tableOk p 0) ∷ rule 20 | rule 20 (tableOk p 0) ∷ rule 9 | YARD_BAD_ORACLE stands before YARD_BAD_ADDED; YARD_BAD_ORACLE: the header has 9, wanted: 20; YARD_BAD_ADDED: the header has 20, wanted: 9
 # a missing or extra refusal
@@ -47,6 +57,9 @@ header | YARD_OUTRANKED = 18, |  | YARD_OUTRANKED is not in the header, wanted: 
 image | rule 12 (headMatches p b) ∷ |  | YARD_OTHER_PLAN: the header alone has 12
 calls | ∷ rule 19 ( | ∷ rule 28 (late p b) ∷ rule 19 ( | rule 28 has no name: late p b
 header | YARD_MARKED = 19 | YARD_MARKED = 19, YARD_LATE = 28 | YARD_LATE: the header alone has 28
+header | YARD_ODD_LOG = 21, |  | YARD_ODD_LOG is not in the header, wanted: 21
+log | rule 21 (eqb (length l % 2) 0) ∷ |  | YARD_ODD_LOG: the header alone has 21
+log | rule 21 (eqb (length l % 2) 0) ∷ | rule 21 (even l) ∷ | rule 21 has no name: even l; YARD_ODD_LOG: the header alone has 21
 # another length or place of the image
 header | YARD_IMAGE_BYTES = 312 | YARD_IMAGE_BYTES = 311 | YARD_IMAGE_BYTES: the header has 311, wanted: 312
 image | imageLength = 312 | imageLength = 320 | YARD_IMAGE_BYTES: the header has 312, wanted: 320
@@ -73,6 +86,7 @@ fn side<'a>(texts: &'a mut Texts, name: &str) -> &'a mut String {
         "rules" => &mut texts.rules,
         "image" => &mut texts.image,
         "calls" => &mut texts.calls,
+        "log" => &mut texts.log,
         other => panic!("no text is called {other}"),
     }
 }
@@ -114,12 +128,18 @@ fn two_refusals_with_each_others_numbers_are_found() {
     assert!(found.contains("YARD_OUTRANKED: the header has 17, wanted: 18"));
 }
 
+/// The second of two refusals moved in front of the first.
+fn found_when_moved(first: &str, second: &str) -> Vec<String> {
+    let mut texts = Texts::ours();
+    edit(&mut texts.header, second, "");
+    edit(&mut texts.header, first, &format!("{second} {first}"));
+    texts.differences()
+}
+
 #[test]
 fn a_refusal_out_of_the_order_of_the_rules_is_found() {
-    let mut texts = Texts::ours();
-    let (code, added) = ("YARD_BAD_CODE = 10,", "YARD_BAD_ADDED = 20,");
-    edit(&mut texts.header, added, "");
-    edit(&mut texts.header, code, &format!("{code} {added}"));
-    let found = texts.differences();
+    let found = found_when_moved("YARD_BAD_ADDED = 20,", "YARD_BAD_CODE = 10,");
     assert_eq!(found, ["YARD_BAD_CODE stands before YARD_BAD_ADDED"]);
+    let found = found_when_moved("YARD_ODD_LOG = 21,", "YARD_BAD_START = 15,");
+    assert_eq!(found, ["YARD_BAD_START stands before YARD_ODD_LOG"]);
 }

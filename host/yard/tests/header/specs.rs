@@ -29,6 +29,12 @@ pub fn rules(text: &str) -> Vec<(u32, String)> {
     text.split(" rule ").skip(1).filter_map(rule).collect()
 }
 
+/// The rules of each definition of a text that has some.
+pub fn rule_lists(text: &str) -> Vec<Vec<(u32, String)>> {
+    let lists = text.split("\n\n").map(rules);
+    lists.filter(|list| !list.is_empty()).collect()
+}
+
 /// What the first parentheses hold.
 fn in_parentheses(text: &str) -> String {
     let mut depth = 0;

@@ -19,7 +19,7 @@ returns : tie.Need-returns
 returns c =
     let s = c .before .before .before in
     let a = s .args in
-    enabled-not (a .plan .now) (site (a .locations .now) (a .ports .now) (a .values .now)) (a .chosen .now) (a .i) (s .pre .0) (s .pre .1 .0) (s .pre .1 .1)
+    enabled-not (a .plan .now) (site (a .locations .now) (a .ports .now) (a .values .now)) (a .chosen .now) (a .i) (s .pre .1 .1)
     (sym (c .before .parts-ready .ensures) ∙ not-yes _ (c .if1 .taken))
 
 interaction-at-requires : tie.Need-interaction-at-requires
@@ -41,7 +41,7 @@ returns-2 c =
     let a = s .args in
     let t = site (a .locations .now) (a .ports .now) (a .values .now) in
     c .guard-holds .ensures ∙ ap (λ (x : ℕ). guardHolds (a .plan .now) t (spanAt (a .plan .now) (x + 16))) (c .before .interaction-at .ensures .0)
-    ∙ enabled-guard (a .plan .now) t (a .chosen .now) (a .i) (s .pre .0) (s .pre .1 .0) (s .pre .1 .1) (sym (o .parts-ready .ensures) ∙ not-no _ (c .before .before .if1 .left))
+    ∙ enabled-guard (a .plan .now) t (a .chosen .now) (a .i) (s .pre .1 .1) (sym (o .parts-ready .ensures) ∙ not-no _ (c .before .before .if1 .left))
 
 pub is-enabled-spec : {M : Type 1} → statement M
 is-enabled-spec =

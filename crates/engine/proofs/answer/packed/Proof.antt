@@ -42,6 +42,15 @@ cast-result-3 c = search needs
 add-result-3 : tie.Need-add-result-3
 add-result-3 c = search needs
 
+enum-known-a-4 : tie.Need-enum-known-a-4
+enum-known-a-4 c = search needs
+
+cast-result-4 : tie.Need-cast-result-4
+cast-result-4 c = search needs
+
+add-result-4 : tie.Need-add-result-4
+add-result-4 c = search needs
+
 returns : tie.Need-returns
 unfolding packed answerOf
 returns c = sym (ap (λ (x : Answer). packed (answerOf x)) (c .enum-told .given .1))
@@ -66,6 +75,10 @@ returns-6 : tie.Need-returns-6
 unfolding packed answerOf
 returns-6 c = sym (ap (λ (x : Answer). packed (answerOf x)) (c .before .a3 .given .1))
 
+returns-7 : tie.Need-returns-7
+unfolding packed answerOf
+returns-7 c = sym (ap (λ (x : Answer). packed (answerOf x)) (c .before .a4 .given .1))
+
 pub packed-spec : {M : Type 1} → statement M
 packed-spec =
     tie.close
@@ -82,9 +95,13 @@ packed-spec =
     enum-known-a-3
     cast-result-3
     add-result-3
+    enum-known-a-4
+    cast-result-4
+    add-result-4
     returns
     returns-2
     returns-3
     returns-4
     returns-5
-    returns-6)
+    returns-6
+    returns-7)

@@ -12,7 +12,8 @@ use Rattle.semantics.specs.Move.{Configuration}
 use Rattle.lane.specs.Runs.{Sized}
 use Rattle.engine.specs.Answers.{answerOf}
 use Rattle.engine.proofs.CallLaws.{parts}
-use Rattle.engine.proofs.ReadLaws.{Read, unset-none, loaded-held, ends-refused, lawful, in-range, open-low, open-move, closed-move, ends-settled, ends-stalled, ends-penned}
+use Rattle.choices.proofs.ChoiceLaws.{unset-none}
+use Rattle.engine.proofs.ReadLaws.{Read, loaded-held, ends-refused, lawful, in-range, open-low, open-move, closed-move, ends-settled, ends-stalled, ends-penned}
 use borrow.Author.Needs.{needs}
 use Rattle.engine.proofs.calls.settle_on.Statement.{statement}
 use Rattle.engine.proofs.calls.settle_on.Tie as tie

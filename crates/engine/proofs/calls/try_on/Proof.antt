@@ -14,7 +14,8 @@ use Rattle.lane.specs.declared.run.Run.{Run}
 use Rattle.lane.specs.Runs.{Sized}
 use Rattle.engine.specs.Answers.{answerOf}
 use Rattle.engine.proofs.CallLaws.{parts}
-use Rattle.engine.proofs.ReadLaws.{Read, unset-none, loaded-held, ends-refused, lawful, in-range, ends-outside, ends-disabled, enabled-in-run, ends-outranked, ends-marked, ends-committed, ends-cancelled}
+use Rattle.choices.proofs.ChoiceLaws.{unset-none, table-in}
+use Rattle.engine.proofs.ReadLaws.{Read, loaded-held, ends-refused, lawful, in-range, ends-outside, ends-disabled, enabled-in-run, ends-outranked, ends-marked, ends-committed, ends-cancelled}
 use borrow.Author.Needs.{needs}
 use Rattle.engine.proofs.calls.try_on.Statement.{statement}
 use Rattle.engine.proofs.calls.try_on.Tie as tie
@@ -165,7 +166,7 @@ after-requires c κs =
     let z = k .if1 .left in (
       past k .plan-accepted,
       (
-        (inside n, e .read .ensures .1 .0 z, enabled-in-run (read e) z (tried e) (inside n) (able a)),
+        (inside n, table-in _ _ _ (past k .plan-accepted) (inside n) _ (e .read .ensures .1 .0 z), enabled-in-run (read e) z (tried e) (inside n) (able a)),
         (in-range (read e) z, sized (loaded (e .before))),
       ),
     )

@@ -1,6 +1,7 @@
 use Rattle.lane.specs.declared.run.Run.{Run}
 use Rattle.lane.specs.Runs.{Sized}
-use Rattle.engine.proofs.ReadLaws.{Read, unset-none, loaded-held, masks}
+use Rattle.choices.proofs.ChoiceLaws.{unset-none}
+use Rattle.engine.proofs.ReadLaws.{Read, loaded-held, masks}
 use borrow.Author.Needs.{needs}
 use Rattle.engine.proofs.reading.seen_on.Statement.{statement}
 use Rattle.engine.proofs.reading.seen_on.Tie as tie

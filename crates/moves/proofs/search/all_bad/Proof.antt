@@ -6,6 +6,7 @@ use Rattle.semantics.specs.Bytes.{lowest, bit}
 use Rattle.semantics.specs.Move.{after, good}
 use Rattle.lane.specs.Runs.{lent}
 use Rattle.words.proofs.MaskWalk.{Walk, walk-start, walk-at, walk-next, walk-fails, walk-done}
+use Rattle.choices.proofs.ChoiceLaws.{table-in}
 use Rattle.moves.proofs.SearchLaws.{ends-good}
 use borrow.Author.Needs.{needs}
 use Rattle.moves.proofs.search.all_bad.Statement.{statement}
@@ -71,7 +72,7 @@ after-requires c κs =
     let b = c .before .before .before .before .before .before in
     let s = begun (turn b) in
     let (k, m) = s .pre .1 .1 .1 (b .lowest-bit .result) (named b) in
-    (s .pre .0, ((k, s .pre .1 .0 .0, m), (s .pre .1 .0 .1, s .pre .1 .1 .0)))
+    (s .pre .0, ((k, table-in _ _ _ (s .pre .0) k _ (s .pre .1 .0 .0), m), (s .pre .1 .0 .1, s .pre .1 .1 .0)))
 
 good-requires : tie.Need-good-requires Inv-loop μ-loop
 good-requires c κs = (begun (turn (bits c)) .pre .0, c .after .ensures .1 .1)

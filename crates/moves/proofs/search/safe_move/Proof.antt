@@ -10,6 +10,7 @@ use Rattle.semantics.specs.Move.{Configuration, enabled, after, good}
 use Rattle.semantics.proofs.Basics.{eqb-true}
 use Rattle.semantics.proofs.Ranking.{commit-enabled}
 use Rattle.choices.specs.Choices.{chosenTable}
+use Rattle.choices.proofs.ChoiceLaws.{table-in}
 use Rattle.choices.proofs.MaskLaws.{lowest-held}
 use Rattle.lane.specs.Runs.{lent, Sized}
 use Rattle.layout.proofs.Sections.{laid-accepted}
@@ -162,7 +163,7 @@ after-requires c κs =
     let n = b .climb .result in (
       s .pre .0,
       (
-        (inside b, s .pre .1 .0 .0 ∙ ap (chosenTable p) (sym e), ap (λ (x : State). enabled p x n) e ∙ s .pre .1 .1 .1 .0 .1 n (named b)),
+        (inside b, table-in p _ n (s .pre .0) (inside b) _ (s .pre .1 .0 .0 ∙ ap (chosenTable p) (sym e)), ap (λ (x : State). enabled p x n) e ∙ s .pre .1 .1 .1 .0 .1 n (named b)),
         (s .pre .1 .0 .1, sized l),
       ),
     )
@@ -222,7 +223,7 @@ after-requires-2 c κs =
     let e = l .loop .inv .1 in (
       s .pre .0,
       (
-        (best-inside b, s .pre .1 .0 .0 ∙ ap (chosenTable p) (sym e), ap (λ (x : State). enabled p x (l .loop .best)) e ∙ best-enabled b),
+        (best-inside b, table-in p _ (l .loop .best) (s .pre .0) (best-inside b) _ (s .pre .1 .0 .0 ∙ ap (chosenTable p) (sym e)), ap (λ (x : State). enabled p x (l .loop .best)) e ∙ best-enabled b),
         (s .pre .1 .0 .1, sized l),
       ),
     )
