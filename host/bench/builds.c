@@ -1,8 +1,8 @@
-/* Two builds of the library, and a second copy of the old one, timed in turn in one run, best of rounds.
+/* Two builds of the library, a second copy of the old one and the baseline in C, timed in turn in one run, best of rounds.
    What copy / old differs from 1 by is placement and noise; new / old is told from it only beyond that,
    and only if it is so again: equal builds have a cell above the greatest copy / old in about every second run.
-   Plans that the old build refuses are left out. Cells in which the builds differ are marked and stand in no spread: there they do
-   other work.
+   Plans that the old build refuses are left out. Cells in which one of the four answers or writes something else are marked and stand in no
+   spread: there it does other work.
    builds ROUNDS PLAN... */
 #define _GNU_SOURCE
 #include "scenes.h"
@@ -11,8 +11,8 @@ CALLS(old)
 CALLS(new)
 CALLS(copy)
 
-enum { OLD, NEW, COPY };
-static const Engine engines[3] = {ENGINE(old), ENGINE(new), ENGINE(copy)};
+enum { OLD, NEW, COPY, BASE };
+static const Engine engines[4] = {ENGINE(old), ENGINE(new), ENGINE(copy), ENGINE(base)};
 
 /* new / old or copy / old. */
 static double ratio(const Cell *c, int who) { return c->best[who] / c->best[OLD]; }
@@ -20,6 +20,8 @@ static double ratio(const Cell *c, int who) { return c->best[who] / c->best[OLD]
 static void print_ratios(const Cell *c) {
   printf(" %.3f, %.3f%s |", ratio(c, NEW), ratio(c, COPY), c->differ ? ", differ" : "");
 }
+
+static void print_times(const Cell *c) { printf(" %.0f, %.0f, %.0f |", c->best[OLD], c->best[NEW], c->best[BASE]); }
 
 static int alike(const Cell *c) { return c->there && !c->differ; }
 
@@ -64,13 +66,15 @@ static int leave_out(int argc, char **argv) {
 
 int main(int argc, char **argv) {
   argc = leave_out(argc, argv);
-  int rounds = measure(engines, 3, argc, argv);
+  int rounds = measure(engines, 4, argc, argv);
   printf("new / old, copy / old, best of %d rounds.\n\n", rounds);
   print_table(argc, argv, print_ratios);
+  printf("\nNanoseconds a call: old, new, C.\n\n");
+  print_table(argc, argv, print_times);
   printf("\n");
   spread("new / old", NEW);
   print_above(spread("copy / old", COPY), argc, argv);
-  printf("new and old:\n");
+  printf("answers and images:\n");
   if (!print_differing(argc, argv)) printf("  alike\n");
   return 0;
 }

@@ -2,4 +2,3 @@ pub mod ChoiceLaws
 pub mod MaskLaws
 pub mod PlanLaws
 pub mod PartLaws
-pub mod ClimbLaws

@@ -1,12 +1,12 @@
--- The transition that each component uses through each of its ports, for all of them in one table; and what is enabled and eligible, read from tables and masks.
+-- The transition that each component uses through each of its ports, for all of them in one table; and what is enabled, read from it.
 use mathlib.Core.Path.{_≡_}
 use Prim.Native.Nat.{ℕ, _+_, _*_, _/_, _%_, _<_}
-use mathlib.Core.Bool.{Bool, true, not, cond, _&&_}
-use mathlib.Core.List.{List, [], _∷_}
+use mathlib.Core.Bool.{Bool, true, cond, _&&_}
+use mathlib.Core.List.{List}
 use lib.ListN.{getD, set}
 use lib.Dec.{ltb, eqb}
-use Rattle.semantics.specs.Bytes.{allOf, implies, some-below, lowest, table, bit, mask}
-use Rattle.semantics.specs.Plan.{Plan, components, transitions, interactions, componentOf, source, portOf, guardOf, portIn, takesPart, below}
+use Rattle.semantics.specs.Bytes.{implies, lowest, table}
+use Rattle.semantics.specs.Plan.{Plan, components, transitions, componentOf, source, portOf, guardOf, portIn, takesPart}
 use Rattle.semantics.specs.Code.{State, guardHolds}
 use Rattle.semantics.specs.Move.{ready, chosen, chosenIn}
 
@@ -45,11 +45,3 @@ pub record ChosenIn (p : Plan) (s : State) (chosen : List ℕ) (i : ℕ) : Type 
 -- Component c takes no part in interaction i, or the table has a transition for its port.
 unfoldable pub portReady : Plan → List ℕ → ℕ → ℕ → Bool
 portReady p chosen i c = implies (takesPart p i c) (ltb (chosenBy p chosen i c) (transitions p))
-
--- Interaction i is in the mask, and none of the mask lies above it.
-unfoldable pub stands : Plan → ℕ → ℕ → Bool
-stands p m i = allOf (bit m i ∷ not (some-below (interactions p) (λ j. below p i j && bit m j)) ∷ [])
-
--- The interactions of the mask above which none of the mask lies.
-unfoldable pub standing : Plan → ℕ → ℕ
-standing p m = mask (interactions p) (stands p m)

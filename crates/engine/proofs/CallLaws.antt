@@ -19,8 +19,8 @@ use Rattle.semantics.proofs.AcceptedPlan.{accepted-plan, counts-of}
 use Rattle.semantics.proofs.LawfulImage.{LawfulImage, lawful-image, marks-kept}
 use Rattle.semantics.proofs.Ranking.{outranked-in}
 use Rattle.words.proofs.BitLaws.{any-bit}
-use Rattle.choices.specs.Choices.{standing}
-use Rattle.choices.proofs.MaskLaws.{standing-offered}
+use Rattle.ranks.specs.Standing.{standing}
+use Rattle.ranks.proofs.StandingLaws.{standing-offered}
 use Rattle.engine.proofs.Refusals.{unless-refused-some}
 
 -- an outcome's two parts

@@ -13,7 +13,7 @@ use Rattle.semantics.specs.Image.{Image, image, withMarks, marksOf, configurati
 use Rattle.semantics.specs.Calls.{offers, committed, cancelled, stalled, penned, refused, outcome, Call, offered, try, settle, called}
 use Rattle.semantics.proofs.Masks.{bit-mask}
 use Rattle.semantics.proofs.LawfulImage.{configured, LawfulImage, lawful-image}
-use Rattle.choices.specs.Choices.{standing}
+use Rattle.ranks.specs.Standing.{standing}
 use Rattle.lane.specs.declared.run.Run.{Run}
 use Rattle.lane.specs.Runs.{stateOf, configurationIn, runOf}
 use Rattle.engine.specs.declared.reading.Reading.{Reading}

@@ -4,13 +4,13 @@ use crate::answer::Answer;
 use crate::answer::Reply;
 use crate::reading;
 use choices::choice;
-use choices::masks;
 use lane::run;
 use layout::header::interactions;
 use layout::image::LENGTH;
 use moves::judge;
 use moves::search;
 use oracle::row;
+use ranks::among;
 use words::bits;
 ghost use mathlib.Core.Path.{_≡_};
 ghost use Rattle.semantics.specs.Rules.{planRefusal};
@@ -71,7 +71,7 @@ pub fn offered_from(plan: &[u8], image: &[u8], checked: u8) -> Reply
     }
     Reply {
         answer: Answer::Accepted,
-        bits: masks::standing_mask(plan, lane.free),
+        bits: among::standing_mask(plan, lane.free),
     }
 }
 
@@ -137,7 +137,7 @@ fn try_on(plan: &[u8], image: &mut [u8], checked: u8, i: u32) -> Answer
     if !bits::bit(lane.enabled, n) {
         return Answer::Refused(17);
     }
-    if masks::is_outranked(plan, lane.free, n) {
+    if among::is_outranked(plan, lane.free, n) {
         return Answer::Refused(18);
     }
     if bits::bit(run.marks, n) {

@@ -5,6 +5,7 @@ use lane::image;
 use lane::run;
 use layout::image::LENGTH;
 use moves::search;
+use ranks::among;
 use words::bits;
 ghost use mathlib.Core.Path.{_≡_};
 ghost use mathlib.Core.Bool.{true, not, _&&_};
@@ -76,7 +77,7 @@ fn marks_ok<'a>(
     if marks == 0 {
         return true;
     }
-    if !masks::none_above(plan, marks, free) {
+    if !among::none_above(plan, marks, free) {
         return false;
     }
     search::all_bad(plan, locations, ports, values, oracles, chosen, marks)

@@ -1,6 +1,6 @@
 -- The search for the move that settling commits: what is known of what is still sought, and that each judged move keeps it and leaves less.
 use mathlib.Core.Path.{_≡_, refl, sym, ap, _∙_, subst}
-use mathlib.Core.Logic.{_⊎_, ⊎-elim}
+use mathlib.Core.Logic.{_⊎_, inl, inr, ⊎-elim}
 use Prim.Native.Nat.{ℕ, _+_, _^_, _≤_, _<_}
 use native.Mathlib.Nat.{le-refl, le-trans, lt-of-le-of-lt}
 use native.Mathlib.Omega.{arith, min-cases}
@@ -8,13 +8,16 @@ use mathlib.Core.Bool.{Bool, true, false, not, _&&_, and-true, and-false}
 use lib.Dec.{ltb, eqb}
 use Rattle.semantics.specs.Bytes.{bit, withBit}
 use Rattle.semantics.specs.Plan.{Plan, interactions, below}
+use Rattle.semantics.specs.Rules.{planRefusal}
 use Rattle.semantics.specs.Move.{Configuration, enabled, after, good, mayCommit, safeMove}
 use Rattle.semantics.proofs.Basics.{bool-cases, absurd-bool, not-yes, and-both, both-and, each, all-of, ltb-true, ltb-false, lt-ltb, eqb-true, eqb-same, ne-eqb, some-none}
 use Rattle.semantics.proofs.Masks.{bit-zero, bit-mask, bit-mask-over}
 use Rattle.semantics.proofs.Ranking.{commit-enabled, commit-good, commit-from, bad-uncommitted, dominated-uncommitted, safe-unique}
+use Rattle.semantics.proofs.RankOrder.{rank-order}
 use Rattle.words.proofs.SubsetLaws.{bits-lt}
-use Rattle.choices.specs.Choices.{stands}
-use Rattle.choices.proofs.MaskLaws.{stands-in, held-inside}
+use Rattle.ranks.specs.Standing.{stands}
+use Rattle.ranks.proofs.StandingLaws.{stands-in}
+use Rattle.words.proofs.Gather.{held-inside}
 use Rattle.moves.specs.declared.search.Sought.{Sought}
 use Rattle.moves.specs.Seeking.{AfterGood, AfterBad}
 
@@ -82,10 +85,58 @@ module _ (m k n : ℕ) (cut : (j : ℕ) → bit k j ≡ (bit m j && not (eqb j n
   cut-gone = cut n ∙ rw (eqb-same n) (and-false (bit m n))
 
 -- after a bad one there is less open
-bad-less : (s r : Sought) (n : ℕ) → AfterBad s n r → s .open < 2 ^ 64 → bit (s .open) n ≡ true → r .open + r .left < s .open + s .left
-bad-less s r n a w t =
+bad-less : (s r : Sought) (steps n : ℕ) → AfterBad s steps n r → s .open < 2 ^ 64 → bit (s .open) n ≡ true → r .open + r .left < s .open + s .left
+bad-less s r steps n a w t =
     let d : r .open < s .open = bits-lt 64 (r .open) (s .open) n (lt-of-le-of-lt (a .open≤) w) (cut-kept (s .open) (r .open) n (a .open-bits)) (cut-gone (s .open) (r .open) n (a .open-bits)) t in
     omega (arith, a .left≤)
+
+-- ---- the steps of a climb
+
+-- An open move that is left or lies above one that is.
+abbrev pub LeftOrAbove : Plan → ℕ → ℕ → ℕ → Type 0
+LeftOrAbove p «open» left n = (bit «open» n ≡ true) × ((i : ℕ) × (bit left i ≡ true) × ((n ≡ i) ⊎ (below p i n ≡ true)))
+
+-- Each step that is to be judged is such a move.
+abbrev pub OnPath : Plan → ℕ → ℕ → ℕ → Type 0
+OnPath p «open» left path = (j : ℕ) → bit path j ≡ true → LeftOrAbove p «open» left j
+
+pub path-empty : (p : Plan) («open» left path : ℕ) → path ≡ 0 → OnPath p «open» left path
+path-empty p «open» left path e j t = absurd (absurd-bool t (ap (λ (x : ℕ). bit x j) e ∙ bit-zero j))
+
+-- what a climb from such a move comes to is such a move too
+pub reached-up : (p : Plan) → planRefusal p ≡ 0 → («open» left : ℕ) → «open» < 2 ^ interactions p → ((j : ℕ) → bit left j ≡ true → bit «open» j ≡ true)
+    → (i n : ℕ) → LeftOrAbove p «open» left i → bit «open» n ≡ true → (n ≡ i) ⊎ (below p i n ≡ true) → LeftOrAbove p «open» left n
+reached-up p h «open» left l sub i n (o, (k, t, r)) w up = (
+  w,
+  (
+    k,
+    t,
+    ⊎-elim (λ e. ⊎-elim (λ q. inl (e ∙ q)) (λ q. inr (subst (λ (x : ℕ). below p k x ≡ true) (sym e) q)) r)
+        (λ b. inr (⊎-elim (λ q. subst (λ (x : ℕ). below p x n ≡ true) q b) (λ q. rank-order p h .transitive k i n (inside k (sub k t)) (inside i o) (inside n w) q b) r)) up,
+  ),
+)
+  where
+    inside : (j : ℕ) → bit «open» j ≡ true → j < interactions p
+    inside j = held-inside (interactions p) «open» j l
+
+-- after a bad move n above which nothing open lies: a step that is still to be judged is open, and is or lies above a move that is left and is not n
+pub path-bad : (p : Plan) (s r : Sought) (steps n : ℕ) → s .open < 2 ^ interactions p → stands p (s .open) n ≡ true → OnPath p (s .open) (s .left) steps
+    → AfterBad s steps n r → OnPath p (r .open) (r .left) (r .path)
+path-bad p s r steps n l top on a j t = (a .open-bits j ∙ both-and o z, (was .1 .0, a .left-bits (was .1 .0) ∙ both-and (was .1 .1) (other (was .1 .2)), was .1 .2))
+  where
+    z : not (eqb j n) ≡ true
+    z = and-both (bit steps j) (not (eqb j n)) (sym (a .path-bits j) ∙ t) .1
+
+    was : LeftOrAbove p (s .open) (s .left) j
+    was = on j (and-both (bit steps j) (not (eqb j n)) (sym (a .path-bits j) ∙ t) .0)
+
+    o : bit (s .open) j ≡ true
+    o = was .0
+
+    other : {i : ℕ} → (j ≡ i) ⊎ (below p i j ≡ true) → not (eqb i n) ≡ true
+    other (inl e) = subst (λ (x : ℕ). not (eqb x n) ≡ true) e z
+    other {i} (inr q) =
+        ap not (ne-eqb i n (λ e. absurd (absurd-bool o (stands-above p (s .open) n top j (held-inside (interactions p) (s .open) j l o) (subst (λ (x : ℕ). below p x j ≡ true) e q)))))
 
 -- ---- what the search knows
 
@@ -108,7 +159,7 @@ seeks-done p c moves s k z = safe-unique p c (s .best) (k .best≤) (k .best-all
 module _ (p : Plan) (c : Configuration) (moves : ℕ) (inside : moves < 2 ^ interactions p) (on : (j : ℕ) → bit moves j ≡ true → enabled p (c .state) j ≡ true)
     (out : (j : ℕ) → j < interactions p → enabled p (c .state) j ≡ true → bit moves j ≡ false → good p (after p c j) ≡ false) where
   -- at the start every move is open and left, and none is known to be allowed
-  pub seeks-start : (b : ℕ) → b ≡ interactions p → Seeks p c moves (record { «open» = moves; left = moves; best = b })
+  pub seeks-start : (b : ℕ) → b ≡ interactions p → Seeks p c moves (record { «open» = moves; left = moves; path = 0; best = b })
   seeks-start b e =
       record {
         open≤ = le-refl moves;
@@ -127,7 +178,7 @@ module _ (p : Plan) (c : Configuration) (moves : ℕ) (inside : moves < 2 ^ inte
       low : {j : ℕ} → j < b → j < interactions p
       low l = omega arith
 
-  module _ (s r : Sought) (n : ℕ) (k : Seeks p c moves s) (top : stands p (s .open) n ≡ true) where
+  module _ (s r : Sought) (steps n : ℕ) (k : Seeks p c moves s) (top : stands p (s .open) n ≡ true) where
     -- a move above which nothing open lies is one of the moves
     pub top-held : bit moves n ≡ true
     top-held = k .open-in n (stands-in p (s .open) n top)
@@ -171,7 +222,7 @@ module _ (p : Plan) (c : Configuration) (moves : ℕ) (inside : moves < 2 ^ inte
             (λ _ e. ap (mayCommit p c) (a .best-lower ∙ e) ∙ top-allowed g)
 
     -- it ends bad
-    seeks-bad : good p (after p c n) ≡ false → AfterBad s n r → Seeks p c moves r
+    seeks-bad : good p (after p c n) ≡ false → AfterBad s steps n r → Seeks p c moves r
     seeks-bad g a =
         record {
           open≤ = le-trans (a .open≤) (k .open≤);
@@ -196,12 +247,12 @@ module _ (p : Plan) (c : Configuration) (moves : ℕ) (inside : moves < 2 ^ inte
             a .open-bits j ∙ both-and (k .left-open j l) o
 
     -- one or the other
-    pub seeks-next : (g : Bool) → g ≡ good p (after p c n) → (g ≡ true → AfterGood p s n r) → (g ≡ false → AfterBad s n r) → Seeks p c moves r
+    pub seeks-next : (g : Bool) → g ≡ good p (after p c n) → (g ≡ true → AfterGood p s n r) → (g ≡ false → AfterBad s steps n r) → Seeks p c moves r
     seeks-next g e won lost = bool-cases g (λ t. seeks-good (sym e ∙ t) (won t)) (λ f. seeks-bad (sym e ∙ f) (lost f))
 
     -- and less is open or left, where n is a number that is left or lies above one
     pub seeks-less : moves < 2 ^ 64 → (i : ℕ) → bit (s .left) i ≡ true → (n ≡ i) ⊎ (below p i n ≡ true)
-        → (g : Bool) → (g ≡ true → AfterGood p s n r) → (g ≡ false → AfterBad s n r) → r .open + r .left < s .open + s .left
+        → (g : Bool) → (g ≡ true → AfterGood p s n r) → (g ≡ false → AfterBad s steps n r) → r .open + r .left < s .open + s .left
     seeks-less w i t reached g won lost =
         bool-cases g (λ y. good-less p s r n (won y) i (lt-of-le-of-lt (k .left≤) w) t reached)
-        (λ f. bad-less s r n (lost f) (lt-of-le-of-lt (k .open≤) w) (stands-in p (s .open) n top))
+        (λ f. bad-less s r steps n (lost f) (lt-of-le-of-lt (k .open≤) w) (stands-in p (s .open) n top))

@@ -4,9 +4,12 @@ use choices::masks;
 use layout::header::interactions;
 use layout::records;
 use oracle::row;
+use ranks::among;
+use ranks::among::Climbed;
 use words::bits;
 ghost use mathlib.Core.Path.{_≡_};
 ghost use mathlib.Core.Bool.{true, false, not};
+ghost use mathlib.Core.Logic.{_⊎_};
 ghost use Prim.Native.Nat.{ℕ, min, _^_, _<_};
 ghost use Rattle.semantics.specs.Bytes.{every, implies, bit};
 ghost use Rattle.semantics.specs.Plan.{maxInteractions, interactions};
@@ -77,11 +80,12 @@ pub fn is_dominated<'a>(
     !all_bad(plan, locations, ports, values, oracles, chosen, above)
 }
 
-// What settling still seeks: the moves not known to be bad, those of them that may yet be the one, and the lowest that is known to be allowed; the number of
-// interactions where none is.
+// What settling still seeks: the moves not known to be bad, those of them that may yet be the one, the steps of the climb that are still to be judged, and the lowest
+// move that is known to be allowed; the number of interactions where none is.
 pub struct Sought {
     pub open: u64,
     pub left: u64,
+    pub path: u64,
     pub best: usize,
 }
 
@@ -95,16 +99,31 @@ fn lower(a: usize, b: usize) -> usize
     a
 }
 
-// What is sought when move n was judged, above which nothing open lies. A good one is allowed, and what lies below it is not; a bad one is out.
-fn narrowed(plan: &[u8], s: Sought, n: usize, good: bool) -> Sought
-    requires { ⌜ planRefusal (now plan) ≡ 0 ⌝ }
-    requires { ⌜ (s .left < 2 ^ interactions (now plan)) × (n < interactions (now plan)) ⌝ }
-    ensures { λ r. ⌜ (good ≡ true → AfterGood (now (plan .entry)) s n r) × (good ≡ false → AfterBad s n r) ⌝ }
+// Where the next climb begins: at the lowest number of the path, which is its last step, or where there is none at the lowest move that is left. The proof asks
+// only that it is one of them.
+fn foot(left: u64, path: u64) -> usize
+    requires { ⌜ 0 < left ⌝ }
+    ensures { λ r. ⌜ (bit path r ≡ true) ⊎ (bit left r ≡ true) ⌝ }
 {
+    if path != 0 {
+        return bits::lowest_bit(path);
+    }
+    bits::lowest_bit(left)
+}
+
+// What is sought when the move that a climb came to was judged, above which nothing open lies. A good one is allowed, and what lies below it is not, the steps to it
+// among that; a bad one is out.
+fn narrowed(plan: &[u8], s: Sought, top: Climbed, good: bool) -> Sought
+    requires { ⌜ planRefusal (now plan) ≡ 0 ⌝ }
+    requires { ⌜ (s .left < 2 ^ interactions (now plan)) × (top .number < interactions (now plan)) ⌝ }
+    ensures { λ r. ⌜ (good ≡ true → AfterGood (now (plan .entry)) s (top .number) r) × (good ≡ false → AfterBad s (top .path) (top .number) r) ⌝ }
+{
+    let n = top.number;
     if good {
         return Sought {
             open: s.open,
-            left: masks::lower_beside(plan, s.left, n),
+            left: among::lower_beside(plan, s.left, n),
+            path: 0,
             best: lower(s.best, n),
         };
     }
@@ -112,6 +131,7 @@ fn narrowed(plan: &[u8], s: Sought, n: usize, good: bool) -> Sought
     Sought {
         open: bits::without(s.open, one),
         left: bits::without(s.left, one),
+        path: bits::without(top.path, one),
         best: s.best,
     }
 }
@@ -124,7 +144,8 @@ pub struct Found {
 
 // The move that settling commits: the lowest one that ends good and above which no enabled one does. The mask has enabled moves, and every enabled one that may
 // end good; the table of choices is that of the state. From the lowest that is left the search climbs to one above which nothing open lies, so none is
-// judged twice; the one found may be made once more. The state after the move is left in three arrays, in which it is made; they are lent with the state in them.
+// judged twice, and after a bad one it goes on from the step before, so its climbs read at most two rows of ranks a move. The one found may be made once more. The
+// state after the move is left in three arrays, in which it is made; they are lent with the state in them.
 pub fn safe_move<'a>(
     plan: &[u8],
     locations: &'a [u8; 16],
@@ -147,14 +168,17 @@ pub fn safe_move<'a>(
     ensures { λ r. ⌜ (r .number < interactions (now (plan .entry)) → lent (now (places .exit)) (now (last .exit)) (now (numbers .exit)) (r .oracles) ≡ after (now (plan .entry)) (lent (now (locations .entry)) (now (ports .entry)) (now (values .entry)) oracles) (r .number)) ⌝ }
 {
     let count = interactions(plan);
-    let mut open = moves;
-    let mut left = moves;
-    let mut best = count;
-    while left != 0 {
-        let n = masks::climb(plan, open, bits::lowest_bit(left));
+    let mut s = Sought {
+        open: moves,
+        left: moves,
+        path: 0,
+        best: count,
+    };
+    while s.left != 0 {
+        let top = among::climb(plan, s.open, s.path, foot(s.left, s.path));
+        let n = top.number;
         let q = judge::after(plan, places, last, numbers, oracles, chosen, n);
-        let s = Sought { open, left, best };
-        let next = narrowed(plan, s, n, row::good(plan, q));
+        let next = narrowed(plan, s, top, row::good(plan, q));
         if next.left == 0 && next.best == n {
             return Found {
                 number: n,
@@ -167,19 +191,17 @@ pub fn safe_move<'a>(
         *last = old_last;
         let old_numbers = *values;
         *numbers = old_numbers;
-        open = next.open;
-        left = next.left;
-        best = next.best;
+        s = next;
     }
-    if best == count {
+    if s.best == count {
         return Found {
             number: count,
             oracles: oracles,
         };
     }
-    let q = judge::after(plan, places, last, numbers, oracles, chosen, best);
+    let q = judge::after(plan, places, last, numbers, oracles, chosen, s.best);
     Found {
-        number: best,
+        number: s.best,
         oracles: q,
     }
 }

@@ -1,8 +1,8 @@
 // The check of a plan: refusals 1 to 10, with 20 before 10, in order, of its header, its tables and its code.
 use layout::header::added_oracles;
 use oracle::rule;
+use ranks::order;
 use tables::header;
-use tables::ranks;
 use tables::records;
 ghost use mathlib.Core.Path.{_≡_};
 ghost use Rattle.semantics.specs.Refusal.{refusal};
@@ -45,7 +45,7 @@ fn table_refusal(plan: &[u8]) -> u8
     if !records::interactions_ok(plan) {
         return 7;
     }
-    if !ranks::ranks_ok(plan) {
+    if !order::ranks_ok(plan) {
         return 8;
     }
     if !rule::first_ok(plan) {

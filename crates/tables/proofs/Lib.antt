@@ -1,3 +1,1 @@
 pub mod Ports
-pub mod RankRows
-pub mod RankWalk

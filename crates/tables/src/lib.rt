@@ -1,4 +1,3 @@
-// The header, the records and the ranks of a plan: refusals 1 to 8, a module a group.
+// The header and the records of a plan: refusals 1 to 7, a module a group.
 pub mod header;
-pub mod ranks;
 pub mod records;

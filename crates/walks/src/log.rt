@@ -37,7 +37,7 @@ fn walk(
     requires { ⌜ (oraclesInRange (now plan) oracles ≡ true) × Sized (now locations) (now ports) (now values) ⌝ }
     ensures { λ r. ⌜ replyOf r ≡ walked (now (plan .entry)) (lent (now (locations .entry)) (now (ports .entry)) (now (values .entry)) oracles) 0 (entries (now (log .entry))) ⌝ }
 {
-    let count = log.len() / 2;
+    let count = log.len() >> 1;
     let mut states = oracles;
     let mut k = 0;
     while k < count {
@@ -65,7 +65,7 @@ pub fn check_log(plan: &[u8], log: &[u8]) -> Reply
     if checked != 0 {
         return turned_away(checked);
     }
-    if log.len() % 2 != 0 {
+    if log.len() & 1 != 0 {
         return turned_away(21);
     }
     let run = judge::initial(plan);

@@ -1,5 +1,5 @@
--- What the operations on 64-bit words do to the bits of a number: shifts, and, or, the complement, the lowest set bit. Laws are stated over a width n.
-use mathlib.Core.Path.{_≡_, refl, sym, ap, ap₂, _∙_}
+-- What the operations on 64-bit words do to the bits of a number: shifts, and, or, the complement, the lowest and the highest set bit. Laws are stated over a width n.
+use mathlib.Core.Path.{_≡_, refl, sym, ap, ap₂, _∙_, subst}
 use Prim.Native.Nat.{ℕ, zero, suc, _+_, _-_, _*_, _/_, _%_, _^_, _≤_, _<_, zero-le, suc-le-suc}
 use native.Mathlib.Nat.{le-of-suc-le-suc, not-suc-le-zero, lt-of-le-of-lt, pow-suc, div-one, add-zero, zero-add, suc-add, one-mul, mod-lt, zero-lt-suc}
 use native.Mathlib.Numerals.{one-add}
@@ -8,7 +8,7 @@ use mathlib.Core.Bool.{Bool, true, false, not, _&&_, _||_, and-true, and-self}
 use lib.Dec.{ltb, eqb, eqb·suc-zero, eqb·zero-suc, eqb·suc-suc, leb·suc-suc, lit<}
 use lib.Pow.{pow-pos, shr-shr, shl-exact}
 use lib.Bits.{bitAnd, bitOr, and-shr, and-mod, and-mask, and-le-l, or-shr, or-mod, or-lt}
-use lib.Count.{trailingZeros, under}
+use lib.Count.{trailingZeros, leadingZeros, under, leading-top}
 use Rattle.semantics.specs.Bytes.{implies, every, some-below, lowest, bit, mask}
 use Rattle.semantics.proofs.Basics.{bool-cases, absurd-bool, same-test, not-yes, not-no, ltb-true, lt-ltb, le-ltb, eqb-true, eq-eqb, ne-eqb, every-at, every-all, some-found, some-none, Lowest, lowest-is, lowest-unique, lowest-none}
 use Rattle.semantics.proofs.Masks.{bit-zero, bit-mask-over, mask-same, mask-bits}
@@ -179,6 +179,21 @@ clear (suc n) m h l j =
 pub bit-clear : (n m : ℕ) → 0 < m → m < 2 ^ n → (j : ℕ) → bit (bitAnd m (m - 1)) j ≡ (bit m j && not (eqb j (lowest n (bit m))))
 bit-clear n m h l j =
     bit-and m (m - 1) j ∙ clear n m h l j ∙ ap (λ (t : ℕ). bit m j && not (eqb j t)) (trailing-lowest n m)
+
+-- ---- the highest set bit
+
+-- a number from 2 ^ j up to twice that has bit j
+top-set : (j m : ℕ) → 2 ^ j ≤ m → m < 2 ^ suc j → bit m j ≡ true
+unfolding bit
+top-set zero m h l = let e : m % 2 ≡ 1 = omega (arith, pow-suc 2 0) in ap (λ (x : ℕ). eqb x 1) e
+top-set (suc j) m h l = top-set j (m / 2) (omega (arith, pow-suc 2 j)) (omega (arith, pow-suc 2 (suc j)))
+
+-- the bit below the leading zeros is set, and none above it
+pub highest-set : (n m r : ℕ) → 0 < m → m < 2 ^ n → leadingZeros n m + suc r ≡ n → (bit m r ≡ true) × ((j : ℕ) → r < j → bit m j ≡ false)
+highest-set n m r h l e =
+    let t = leading-top n m h l in
+    let q : t .0 ≡ r = omega (arith, t .1) in
+    (subst (λ (x : ℕ). bit m x ≡ true) q (top-set (t .0) m (t .2) (t .3)), λ j g. bit-above (suc (t .0)) m j (t .3) (omega (arith, t .1)))
 
 -- ---- words as tests
 

@@ -1,4 +1,5 @@
 pub mod BitLaws
+pub mod Gather
 pub mod Loops
 pub mod MaskWalk
 pub mod MatchRest

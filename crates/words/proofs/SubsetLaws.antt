@@ -4,11 +4,11 @@ use Prim.Native.Nat.{ℕ, _-_, _^_, _≤_, _<_}
 use native.Mathlib.Nat.{lt-of-le-of-lt}
 use native.Mathlib.Omega.{arith}
 use mathlib.Core.Bool.{Bool, true, false, not, _&&_}
-use lib.Bits.{bitAnd, and-le-l, and-le-r}
+use lib.Bits.{bitAnd, bitOr, and-le-l, and-le-r}
 use lib.Dec.{ltb}
-use Rattle.semantics.specs.Bytes.{bit}
-use Rattle.semantics.proofs.Basics.{bool-cases, absurd-bool, both-and, ltb-true, ltb-false}
-use Rattle.words.proofs.BitLaws.{bit-and, bit-not, bits-same, bit-above}
+use Rattle.semantics.specs.Bytes.{implies, every, bit}
+use Rattle.semantics.proofs.Basics.{bool-cases, absurd-bool, same-test, and-both, both-and, or-cases, or-left, or-right, implies-yes, implies-at, ltb-true, ltb-false, every-at, every-all}
+use Rattle.words.proofs.BitLaws.{bit-and, bit-or, bit-not, bits-same, bit-above}
 
 -- a & !b
 pub bit-without : (n a b k : ℕ) → a < 2 ^ n → b < 2 ^ n → bit (bitAnd a (2 ^ n - 1 - b)) k ≡ (bit a k && not (bit b k))
@@ -35,3 +35,24 @@ bits-lt n a b k h f x y =
     (λ q.
     let e : a ≡ b = omega (arith, ltb-false a b q, bits-le n a b h f) in
     absurd-bool y (ap (λ (m : ℕ). bit m k) (sym e) ∙ x))
+
+-- whether each number of a is in m
+abbrev within : ℕ → ℕ → ℕ → Bool
+within n a m = every n (λ k. implies (bit a k) (bit m k))
+
+-- then one that is in a is in m
+within-at : (n a m : ℕ) → within n a m ≡ true → (k : ℕ) → k < n → bit a k ≡ true → bit m k ≡ true
+within-at n a m e k l = implies-at (bit a k) (bit m k) (every-at n (λ j. implies (bit a j) (bit m j)) e k l)
+
+-- and it is so where each one is
+within-all : (n a m : ℕ) → ((k : ℕ) → k < n → bit a k ≡ true → bit m k ≡ true) → within n a m ≡ true
+within-all n a m f = every-all n (λ j. implies (bit a j) (bit m j)) (λ k l. implies-yes (bit a k) (bit m k) (f k l))
+
+-- a | b is in m where both a and b are
+pub union-inside : (n a b m : ℕ) → within n (bitOr a b) m ≡ (within n a m && within n b m)
+union-inside n a b m =
+    same-test (within n (bitOr a b) m) (within n a m && within n b m)
+    (λ e. both-and (within-all n a m (λ k l t. within-at n (bitOr a b) m e k l (bit-or a b k ∙ or-left (bit a k) (bit b k) t)))
+    (within-all n b m (λ k l t. within-at n (bitOr a b) m e k l (bit-or a b k ∙ or-right (bit a k) (bit b k) t))))
+    (λ e. let (f, g) = and-both (within n a m) (within n b m) e in
+    within-all n (bitOr a b) m (λ k l t. or-cases (bit a k) (bit b k) (sym (bit-or a b k) ∙ t) (within-at n a m f k l) (within-at n b m g k l)))

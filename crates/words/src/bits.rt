@@ -1,7 +1,7 @@
 // 64-bit masks: bit k stands for the number k.
 ghost use mathlib.Core.Path.{_≡_};
 ghost use Prim.Native.Nat.{ℕ, _≤_, _<_};
-ghost use mathlib.Core.Bool.{not, _&&_};
+ghost use mathlib.Core.Bool.{true, false, not, _&&_};
 ghost use lib.Dec.{eqb, ltb};
 ghost use Rattle.semantics.specs.Bytes.{bit, lowest, every, some-below, implies, withBit};
 
@@ -27,6 +27,14 @@ pub fn lowest_bit(m: u64) -> usize
     ensures { λ r. ⌜ (r ≡ lowest 64 (bit m)) × (r < 64) ⌝ }
 {
     u64::trailing_zeros(m) as usize
+}
+
+// The highest number in the mask.
+pub fn highest_bit(m: u64) -> usize
+    requires { ⌜ 0 < m ⌝ }
+    ensures { λ r. ⌜ (bit m r ≡ true) × ((j : ℕ) → r < j → bit m j ≡ false) × (r < 64) ⌝ }
+{
+    63 - u64::leading_zeros(m) as usize
 }
 
 // The mask without its lowest number.

@@ -37,19 +37,11 @@ struct Question<'a> {
     lent: &'a [u8],
 }
 
-/// The calls that an older build is not held to, and those of them in which its answer or image differs.
-#[derive(Clone, Copy, Debug, Default, PartialEq, Eq)]
-pub struct LeftOut {
-    pub calls: u64,
-    pub different: u64,
-}
-
 pub struct Comparer {
     seed: u64,
     library: Engine,
-    /// A build of the library whose ranks may mean something else.
+    /// Another build of the library.
     older: Option<Engine>,
-    pub left_out: LeftOut,
     lent: Lent,
 }
 
@@ -64,13 +56,11 @@ impl Comparer {
             seed,
             library,
             older: None,
-            left_out: LeftOut::default(),
             lent: Lent::new(ROOM),
         }
     }
 
-    /// With an older build, by which marked interactions may hold others down: it is left out of the calls on a lane in which the reference sees an
-    /// enabled interaction above another. In all others no move is outranked.
+    /// With an older build as well.
     pub fn and_older(mut self, engine: Engine) -> Comparer {
         self.older = Some(engine);
         self
@@ -78,18 +68,13 @@ impl Comparer {
 
     /// The names of all that are compared.
     pub fn names(&self) -> String {
-        let engines = [self.library, BASELINE].into_iter().chain(self.older);
+        let engines = [self.library].into_iter().chain(self.others());
         let names = engines.map(|engine| engine.name).chain(["reference"]);
         names.collect::<Vec<_>>().join(", ")
     }
 
-    /// What was left out of the comparison with the older build, where there is one.
-    pub fn told_of_older(&self) -> Option<String> {
-        let LeftOut { calls, different } = self.left_out;
-        let name = self.older?.name;
-        Some(format!(
-            "{name}: left out of {calls} calls with an enabled interaction above another; in {different} of them it differs"
-        ))
+    fn others(&self) -> impl Iterator<Item = Engine> {
+        [BASELINE].into_iter().chain(self.older)
     }
 
     /// Holds the library, lent its buffers at either end, and the others, at one end in turn, against the reference.
@@ -110,11 +95,10 @@ impl Comparer {
             let shown = shown(plan.bytes(), lent, outcome.answer);
             shown.into_iter().for_each(|what| tally.shown(what));
         }
-        let ranked = Ranked::read(call, plan.bytes(), lent);
-        let facts = ranked
-            .iter()
-            .flat_map(|ranked| ranked.facts(call, outcome.answer, outcome.bits));
-        facts.for_each(|fact| tally.fact(fact));
+        if let Some(ranked) = Ranked::read(call, plan.bytes(), lent) {
+            let facts = ranked.facts(call, outcome.answer, outcome.bits);
+            facts.into_iter().for_each(|fact| tally.fact(fact));
+        }
         let question = Question {
             call,
             number: tally.calls,
@@ -125,32 +109,10 @@ impl Comparer {
             self.hold(self.library, end, &question, &outcome)?;
         }
         let in_turn = ENDS[tally.calls as usize % 2];
-        self.hold(BASELINE, in_turn, &question, &outcome)?;
-        self.hold_older(in_turn, &question, &outcome, ranked.is_some())?;
-        Ok(outcome)
-    }
-
-    /// Holds the older build, where there is one; where ranks play a part, what it says is only counted.
-    fn hold_older(
-        &mut self,
-        end: End,
-        question: &Question,
-        outcome: &Outcome,
-        is_ranked: bool,
-    ) -> Checked<()> {
-        let older = self
-            .older
-            .filter(|older| older.logs.is_some() || !question.call.is_of_log());
-        let Some(older) = older else {
-            return Ok(());
-        };
-        let held = self.hold(older, end, question, outcome);
-        if !is_ranked {
-            return held;
+        for other in self.others() {
+            self.hold(other, in_turn, &question, &outcome)?;
         }
-        self.left_out.calls += 1;
-        self.left_out.different += u64::from(held.is_err());
-        Ok(())
+        Ok(outcome)
     }
 
     fn hold(

@@ -5,7 +5,7 @@ use std::process::ExitCode;
 
 use crate::checked::Comparer;
 use crate::fault;
-use crate::sequences::{Plans, Session};
+use crate::sequences::Session;
 
 const SEED: u64 = 1;
 const CALLS: u64 = 2_000_000;
@@ -15,41 +15,33 @@ pub struct Run {
     pub seed: u64,
     /// Compares at least so many calls.
     pub calls: u64,
-    pub plans: Plans,
 }
 
 impl Run {
-    /// The run that the arguments `[--old] [SEED [CALLS]]` ask for.
+    /// The run that the arguments `[SEED [CALLS]]` ask for.
     pub fn read(arguments: &[String]) -> Option<Run> {
-        let (plans, numbers) = match arguments {
-            [flag, numbers @ ..] if flag == "--old" => (Plans::Old, numbers),
-            numbers => (Plans::All, numbers),
-        };
-        let numbers: Result<Vec<u64>, _> = numbers.iter().map(|n| n.parse()).collect();
+        let numbers: Result<Vec<u64>, _> = arguments.iter().map(|n| n.parse()).collect();
         let (seed, calls) = match numbers.ok()?[..] {
             [] => (SEED, CALLS),
             [seed] => (seed, CALLS),
             [seed, calls] => (seed, calls),
             _ => return None,
         };
-        Some(Run { seed, calls, plans })
+        Some(Run { seed, calls })
     }
 
     fn start(self, comparer: Comparer) -> ExitCode {
         fault::watch();
         println!("{}: seed {}\n", comparer.names(), self.seed);
-        let mut session = Session::new(self.seed, self.plans, comparer);
+        let mut session = Session::new(self.seed, comparer);
         let difference = session.compare(self.calls).err();
         print!("{}", session.tally);
-        if let Some(told) = session.comparer.told_of_older() {
-            println!("{told}");
-        }
         if let Some(difference) = difference {
             difference.report(self.seed);
             println!("{} calls compared, 1 difference", session.tally.calls);
             return ExitCode::FAILURE;
         }
-        let missing = session.tally.missing(self.plans);
+        let missing = session.tally.missing();
         for name in &missing {
             println!("never occurred: {name}");
         }
@@ -64,7 +56,7 @@ pub fn run(program: &str, comparer: fn(u64) -> Comparer) -> ExitCode {
     match Run::read(&arguments) {
         Some(run) => run.start(comparer(run.seed)),
         None => {
-            eprintln!("usage: {program} [--old] [SEED [CALLS]]");
+            eprintln!("usage: {program} [SEED [CALLS]]");
             ExitCode::from(2)
         }
     }
@@ -74,33 +66,21 @@ pub fn run(program: &str, comparer: fn(u64) -> Comparer) -> ExitCode {
 mod tests {
     use super::*;
 
-    fn read(arguments: &[&str]) -> Option<(u64, u64, Plans)> {
+    fn read(arguments: &[&str]) -> Option<(u64, u64)> {
         let arguments: Vec<String> = arguments.iter().map(|a| a.to_string()).collect();
-        Run::read(&arguments).map(|run| (run.seed, run.calls, run.plans))
+        Run::read(&arguments).map(|run| (run.seed, run.calls))
     }
 
     #[test]
     fn arguments_are_a_seed_and_a_number_of_calls() {
-        assert_eq!(read(&[]), Some((SEED, CALLS, Plans::All)));
-        assert_eq!(read(&["7"]), Some((7, CALLS, Plans::All)));
-        assert_eq!(read(&["7", "90"]), Some((7, 90, Plans::All)));
-    }
-
-    #[test]
-    fn a_flag_before_them_asks_for_old_plans() {
-        assert_eq!(read(&["--old"]), Some((SEED, CALLS, Plans::Old)));
-        assert_eq!(read(&["--old", "7", "90"]), Some((7, 90, Plans::Old)));
+        assert_eq!(read(&[]), Some((SEED, CALLS)));
+        assert_eq!(read(&["7"]), Some((7, CALLS)));
+        assert_eq!(read(&["7", "90"]), Some((7, 90)));
     }
 
     #[test]
     fn other_arguments_are_bad_usage() {
-        for arguments in [
-            &["-1"][..],
-            &["7", "many"],
-            &["7", "90", "1"],
-            &["7", "--old"],
-            &["--new"],
-        ] {
+        for arguments in [&["-1"][..], &["7", "many"], &["7", "90", "1"]] {
             assert_eq!(read(arguments), None);
         }
     }

@@ -80,13 +80,6 @@ impl Reply {
     }
 }
 
-/// The calls on a log.
-#[derive(Clone, Copy)]
-pub struct Logs {
-    pub check: fn(&[u8], &[u8]) -> Answer,
-    pub index: fn(&[u8], &[u8]) -> u64,
-}
-
 /// An engine with the interface of yard.h.
 #[derive(Clone, Copy)]
 pub struct Engine {
@@ -97,8 +90,8 @@ pub struct Engine {
     pub bits: fn(&[u8], &[u8]) -> u64,
     pub attempt: fn(&[u8], &mut [u8], u32) -> Answer,
     pub settle: fn(&[u8], &mut [u8]) -> Answer,
-    /// None in a build of before them.
-    pub logs: Option<Logs>,
+    pub log: fn(&[u8], &[u8]) -> Answer,
+    pub log_index: fn(&[u8], &[u8]) -> u64,
 }
 
 pub const LIBRARY: Engine = Engine {
@@ -109,10 +102,8 @@ pub const LIBRARY: Engine = Engine {
     bits: yard::offered_bits,
     attempt: yard::attempt,
     settle: yard::settle,
-    logs: Some(Logs {
-        check: yard::log,
-        index: yard::log_index,
-    }),
+    log: yard::log,
+    log_index: yard::log_index,
 };
 
 pub const BASELINE: Engine = Engine {
@@ -123,10 +114,8 @@ pub const BASELINE: Engine = Engine {
     bits: baseline::offered_bits,
     attempt: baseline::attempt,
     settle: baseline::settle,
-    logs: Some(Logs {
-        check: baseline::log,
-        index: baseline::log_index,
-    }),
+    log: baseline::log,
+    log_index: baseline::log_index,
 };
 
 impl Engine {
@@ -139,12 +128,8 @@ impl Engine {
             Call::Bits => return Reply::Bits((self.bits)(plan, lent.locked())),
             Call::Try(number) => (self.attempt)(plan, lent.bytes_mut(), number),
             Call::Settle => (self.settle)(plan, lent.bytes_mut()),
-            Call::Log => (self.logs().check)(plan, lent.locked()),
-            Call::LogIndex => return Reply::Index((self.logs().index)(plan, lent.locked())),
+            Call::Log => (self.log)(plan, lent.locked()),
+            Call::LogIndex => return Reply::Index((self.log_index)(plan, lent.locked())),
         })
-    }
-
-    fn logs(&self) -> Logs {
-        self.logs.expect("an engine without logs is asked for none")
     }
 }

@@ -69,7 +69,7 @@ pub fn plan(rng: &mut Rng) -> Generated {
 }
 
 /// A lawful plan with so many added oracles.
-pub fn with_added(rng: &mut Rng, added: usize) -> Generated {
+fn with_added(rng: &mut Rng, added: usize) -> Generated {
     let sizes = Sizes::new(rng, added);
     let mut writer = Writer::new(rng, sizes.words);
     let mut draft = Draft {

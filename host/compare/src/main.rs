@@ -1,4 +1,4 @@
-//! Compares every call of libyard.a with the reference, the C baseline and the book; with --old on plans without added oracles alone.
+//! Compares every call of libyard.a with the reference, the C baseline and the book.
 #![forbid(unsafe_code)]
 
 use std::process::ExitCode;

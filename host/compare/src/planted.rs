@@ -5,9 +5,9 @@ use std::process::Command;
 use std::{env, ptr};
 
 use crate::checked::Comparer;
-use crate::engines::{Engine, Logs, LIBRARY};
+use crate::engines::{Engine, LIBRARY};
 use crate::fault;
-use crate::sequences::{Plans, Session};
+use crate::sequences::Session;
 
 /// The variable that tells a process which fault to plant.
 const CHOSEN: &str = "PLANTED";
@@ -28,7 +28,6 @@ fn rewrite(bytes: &[u8], at: usize) {
 #[rustfmt::skip]
 fn faults() -> [(Engine, &'static str, &'static str); 9] {
     let engine = |name| Engine { name, ..LIBRARY };
-    let of_logs = |name, check| Engine { logs: Some(Logs { check, index: yard::log_index }), ..engine(name) };
     [
         (Engine { check: |p| { read(p, p.len() as isize); yard::check(p) }, ..engine("read past the plan") },
             "Back", "read or wrote a byte 1 behind the plan"),
@@ -42,11 +41,11 @@ fn faults() -> [(Engine, &'static str, &'static str); 9] {
             "Front", "wrote to byte 7 of the read-only pages of the plan"),
         (Engine { bits: |p, b| { rewrite(b, 16); yard::offered_bits(p, b) }, ..engine("write to an image to read") },
             "Front", "wrote to byte 16 of the read-only pages of the image"),
-        (of_logs("read past the log", |p, l| { read(l, l.len() as isize); yard::log(p, l) }),
+        (Engine { log: |p, l| { read(l, l.len() as isize); yard::log(p, l) }, ..engine("read past the log") },
             "Back", "read or wrote a byte 1 behind the log"),
-        (of_logs("read before the log", |p, l| { read(l, -1); yard::log(p, l) }),
+        (Engine { log: |p, l| { read(l, -1); yard::log(p, l) }, ..engine("read before the log") },
             "Front", "read or wrote a byte 1 before the log"),
-        (of_logs("write to the log", |p, l| { rewrite(l, 1); yard::log(p, l) }),
+        (Engine { log: |p, l| { rewrite(l, 1); yard::log(p, l) }, ..engine("write to the log") },
             "Front", "wrote to byte 1 of the read-only pages of the log"),
     ]
 }
@@ -60,7 +59,7 @@ fn with_the_chosen_fault() {
         .into_iter()
         .find(|engine| engine.name == chosen);
     fault::watch();
-    let mut session = Session::new(1, Plans::All, Comparer::with(1, engine.unwrap()));
+    let mut session = Session::new(1, Comparer::with(1, engine.unwrap()));
     assert!(session.compare(10_000).is_ok());
 }
 

@@ -1,5 +1,4 @@
-//! An engine by which an enabled interaction holds down those below it, marked or not: it is found out, and as an older build it differs in
-//! calls left out alone.
+//! An engine by which an enabled interaction holds down those below it, marked or not: it is found out, in the library's place and as an older build.
 
 use reference::image::{self, Stored};
 use reference::lane::{offered, Moves};
@@ -8,7 +7,7 @@ use yard::Answer;
 
 use crate::checked::Comparer;
 use crate::engines::{Engine, BASELINE};
-use crate::sequences::{Plans, Session};
+use crate::sequences::Session;
 
 /// The C engine, with tries of moves below enabled ones refused, and settling among the others alone.
 const RANKS_FIRST: Engine = Engine {
@@ -62,20 +61,12 @@ fn settle(plan: &[u8], image: &mut [u8]) -> Answer {
 
 #[test]
 fn an_engine_that_ranks_first_is_found_out() {
-    for which in [Plans::All, Plans::Old] {
-        let mut session = Session::new(2, which, Comparer::with(2, RANKS_FIRST));
-        let found = session.compare(5_000).err();
+    for comparer in [
+        Comparer::with(2, RANKS_FIRST),
+        Comparer::with(2, BASELINE).and_older(RANKS_FIRST),
+    ] {
+        let found = Session::new(2, comparer).compare(5_000).err();
         let name = found.map(|difference| difference.said.0);
         assert_eq!(name, Some("ranks first"));
     }
-}
-
-#[test]
-fn an_older_build_differs_where_an_enabled_move_lies_above_another_alone() {
-    let comparer = Comparer::with(2, BASELINE).and_older(RANKS_FIRST);
-    let mut session = Session::new(2, Plans::All, comparer);
-    assert!(session.compare(20_000).is_ok());
-    let left_out = session.comparer.left_out;
-    assert!(left_out.different > 0);
-    assert!(left_out.calls > left_out.different && left_out.calls < session.tally.calls);
 }

@@ -19,25 +19,13 @@ use crate::rng::Rng;
 use crate::tally::Tally;
 use crate::{damage, generate, images};
 
-/// Which plans and images are compared.
-#[derive(Clone, Copy, Debug, PartialEq, Eq)]
-pub enum Plans {
-    All,
-    /// Plans without added oracles: bytes 42 to 45 of every plan and 9 to 11 of every image are zero.
-    Old,
-}
-
-/// The bytes of a plan, and of an image, that are zero without added oracles.
-const OF_PLAN: Range<usize> = 42..46;
-const OF_IMAGE: Range<usize> = 9..12;
 /// The marks of an image.
 const MARKS: Range<usize> = 16..24;
 
 pub struct Session {
     rng: Rng,
-    which: Plans,
     pub tally: Tally,
-    pub comparer: Comparer,
+    comparer: Comparer,
     plans: Shelf,
     /// An image that another plan reached.
     other: Vec<u8>,
@@ -46,10 +34,9 @@ pub struct Session {
 }
 
 impl Session {
-    pub fn new(seed: u64, which: Plans, comparer: Comparer) -> Session {
+    pub fn new(seed: u64, comparer: Comparer) -> Session {
         Session {
             rng: Rng::new(seed),
-            which,
             tally: Tally::default(),
             comparer,
             plans: Shelf::default(),
@@ -68,12 +55,9 @@ impl Session {
 
     /// One lawful plan: a sequence of calls with others between, then calls on damaged plans.
     fn round(&mut self) -> Checked<()> {
-        let made = match self.which {
-            Plans::All => generate::plan(&mut self.rng),
-            Plans::Old => generate::with_added(&mut self.rng, 0),
-        };
+        let made = generate::plan(&mut self.rng);
         self.tally.plan(&made);
-        let plan = self.lend(made.draft.bytes());
+        let plan = self.plans.lend(&made.draft.bytes());
         let mut image = vec![0; IMAGE_BYTES];
         self.rng.fill(&mut image);
         self.call(&plan, &image, Call::Check)?;
@@ -125,16 +109,10 @@ impl Session {
         Ok(image)
     }
 
-    fn lend(&mut self, bytes: Vec<u8>) -> LentPlan {
-        let bytes = self.restricted(bytes, OF_PLAN);
-        self.plans.lend(&bytes)
-    }
-
     fn call(&mut self, plan: &LentPlan, image: &[u8], call: Call) -> Checked<Outcome> {
-        let image = self.restricted(image.to_vec(), OF_IMAGE);
-        let outcome = self.comparer.compare(&mut self.tally, plan, &image, call)?;
+        let outcome = self.comparer.compare(&mut self.tally, plan, image, call)?;
         if call == Call::Settle && outcome.answer.kind() != yard::REFUSED {
-            self.settle_unmarked(plan, &image, &outcome)?;
+            self.settle_unmarked(plan, image, &outcome)?;
         }
         Ok(outcome)
     }
@@ -165,15 +143,6 @@ impl Session {
             plan: plan.bytes().to_vec(),
             lent: image.to_vec(),
         }))
-    }
-
-    /// The bytes, with zeros in the places that only added oracles use where there are to be none.
-    fn restricted(&self, mut bytes: Vec<u8>, places: Range<usize>) -> Vec<u8> {
-        if self.which == Plans::Old {
-            let used = bytes.iter_mut().skip(places.start).take(places.len());
-            used.for_each(|byte| *byte = 0);
-        }
-        bytes
     }
 
     /// Now and then, calls apart from the sequence: on another image or with a damaged plan.
@@ -211,7 +180,7 @@ impl Session {
     /// A check of a damaged plan, and another call with it.
     fn damaged_plan(&mut self, draft: &Draft, image: &[u8]) -> Checked<()> {
         let bytes = damage::plan(&mut self.rng, draft);
-        let plan = self.lend(bytes);
+        let plan = self.plans.lend(&bytes);
         self.call(&plan, image, Call::Check)?;
         if self.rng.chance(5) {
             let damaged = images::damaged(&mut self.rng, image, draft, &self.other);
@@ -288,29 +257,16 @@ impl Session {
 #[cfg(test)]
 mod tests {
     use super::*;
-    use crate::causes::CAUSES;
     use crate::engines::BASELINE;
 
-    /// The tally of a comparison of the C baseline, which stands in the library's place too.
-    fn compared(which: Plans) -> Tally {
-        let mut session = Session::new(2, which, Comparer::with(2, BASELINE));
+    /// The C baseline stands in the library's place too.
+    #[test]
+    fn the_baseline_agrees_and_everything_occurs() {
+        let mut session = Session::new(2, Comparer::with(2, BASELINE));
         if let Err(difference) = session.compare(60_000) {
             difference.report(2);
             panic!("a difference");
         }
-        session.tally
-    }
-
-    #[test]
-    fn the_baseline_agrees_on_all_plans_and_everything_occurs() {
-        let missing = compared(Plans::All).missing(Plans::All);
-        assert_eq!(missing, [""; 0]);
-    }
-
-    #[test]
-    fn the_baseline_agrees_on_old_plans_and_no_oracle_is_added() {
-        let tally = compared(Plans::Old);
-        assert_eq!(tally.missing(Plans::Old), [""; 0]);
-        assert_eq!(tally.missing(Plans::All).len(), CAUSES.len() + 1);
+        assert_eq!(session.tally.missing(), [""; 0]);
     }
 }

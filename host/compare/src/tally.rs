@@ -11,7 +11,6 @@ use crate::engines::Call;
 use crate::generate::Generated;
 use crate::logs::{Shown, SHOWN};
 use crate::ranking::{Fact, FACTS};
-use crate::sequences::Plans;
 
 const CALLS: [&str; 8] = [
     "check", "start", "offered", "bits", "try", "settle", "log", "index",
@@ -25,8 +24,6 @@ const KINDS: [&str; 7] = [
     "refused",
     "wrong",
 ];
-/// The refusal that plans without added oracles do not have.
-const ADDED: usize = 20;
 const SUMS: [&str; 3] = ["add", "subtract", "kind 1"];
 const ENDS: [&str; 2] = ["upper", "lower"];
 const SIZES: [&str; 11] = [
@@ -100,17 +97,15 @@ impl Tally {
         self.most_moves = moves.max(self.most_moves);
     }
 
-    /// The answer kinds, refusals, causes, facts and results past an end that never occurred, of those that such plans can have.
-    pub fn missing(&self, plans: Plans) -> Vec<String> {
+    /// The answer kinds, refusals, causes, facts and results past an end that never occurred.
+    pub fn missing(&self) -> Vec<String> {
         let kinds = (0..KINDS.len()).filter(|&kind| self.answers.iter().all(|row| row[kind] == 0));
-        let refusals = (1..22).filter(|&n| plans == Plans::All || n != ADDED);
-        let refusals = refusals.filter(|&n| self.refusals[n] == 0);
-        let causes = names(&CAUSES).filter(|_| plans == Plans::All);
+        let refusals = (1..22).filter(|&n| self.refusals[n] == 0);
         let never = |(name, count): (&str, &u64)| (*count == 0).then(|| name.to_string());
         kinds
             .map(|kind| KINDS[kind].to_string())
             .chain(refusals.map(|n| format!("refusal {n}")))
-            .chain(causes.zip(&self.causes).filter_map(never))
+            .chain(names(&CAUSES).zip(&self.causes).filter_map(never))
             .chain(names(&FACTS).zip(&self.facts).filter_map(never))
             .chain(names(&SHOWN).zip(&self.shown).filter_map(never))
             .chain(self.never_past())

@@ -2,8 +2,8 @@
 #![allow(unsafe_code)]
 
 use crate::checked::Comparer;
-use crate::engines::{Engine, Logs};
-use crate::sequences::{Plans, Session};
+use crate::engines::Engine;
+use crate::sequences::Session;
 
 yard::engine!(
     "wrapping_check",
@@ -24,17 +24,13 @@ const WRAPPING: Engine = Engine {
     bits: offered_bits,
     attempt,
     settle,
-    logs: Some(Logs {
-        check: log,
-        index: log_index,
-    }),
+    log,
+    log_index,
 };
 
 #[test]
 fn an_engine_whose_sums_wrap_is_found_out() {
-    for which in [Plans::All, Plans::Old] {
-        let mut session = Session::new(2, which, Comparer::with(2, WRAPPING));
-        let found = session.compare(5_000).err();
-        assert_eq!(found.map(|difference| difference.said.0), Some("wrapping"));
-    }
+    let mut session = Session::new(2, Comparer::with(2, WRAPPING));
+    let found = session.compare(5_000).err();
+    assert_eq!(found.map(|difference| difference.said.0), Some("wrapping"));
 }

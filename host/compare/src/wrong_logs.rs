@@ -1,4 +1,4 @@
-//! Engines with a fault planted in the check of a log: each is found out.
+//! Engines with a fault planted in the check of a log: each is found out, in the library's place and as an older build.
 
 use reference::answer::Cause;
 use reference::lane::Lane;
@@ -8,22 +8,8 @@ use yard::Answer;
 
 use crate::baseline;
 use crate::checked::Comparer;
-use crate::engines::{Engine, Logs, BASELINE};
-use crate::sequences::{Plans, Session};
-
-const RIGHT: Logs = Logs {
-    check: baseline::log,
-    index: baseline::log_index,
-};
-
-/// The C engine with other calls on logs.
-const fn engine(name: &'static str, logs: Logs) -> Engine {
-    Engine {
-        name,
-        logs: Some(logs),
-        ..BASELINE
-    }
-}
+use crate::engines::{Engine, BASELINE};
+use crate::sequences::Session;
 
 fn wrong(cause: Cause) -> Answer {
     Answer {
@@ -122,22 +108,28 @@ fn index_of_accepted(plan: &[u8], log: &[u8]) -> u64 {
 
 #[test]
 fn each_engine_that_judges_logs_wrongly_is_found_out() {
-    let check = |check| Logs { check, ..RIGHT };
-    let index = |index| Logs { index, ..RIGHT };
+    let right = |name| Engine { name, ..BASELINE };
+    let check = |name, log| Engine { log, ..right(name) };
+    let index = |name, log_index| Engine {
+        log_index,
+        ..right(name)
+    };
     for engine in [
-        engine("18 by an enabled bad move", check(ranked_by_enabled)),
-        engine("bad before 18", check(bad_first)),
-        engine("15 before 21", check(start_first)),
-        engine("an empty log past a bad start", check(empty_log_accepted)),
-        engine("highest byte first", check(bytes_swapped)),
-        engine("low bytes alone", check(low_bytes)),
-        engine("index from 1", index(index_from_1)),
-        engine("index of one byte", index(index_of_a_byte)),
-        engine("index of an accepted log", index(index_of_accepted)),
+        check("18 by an enabled bad move", ranked_by_enabled),
+        check("bad before 18", bad_first),
+        check("15 before 21", start_first),
+        check("an empty log past a bad start", empty_log_accepted),
+        check("highest byte first", bytes_swapped),
+        check("low bytes alone", low_bytes),
+        index("index from 1", index_from_1),
+        index("index of one byte", index_of_a_byte),
+        index("index of an accepted log", index_of_accepted),
     ] {
-        for which in [Plans::All, Plans::Old] {
-            let mut session = Session::new(2, which, Comparer::with(2, engine));
-            let found = session.compare(20_000).err();
+        for comparer in [
+            Comparer::with(2, engine),
+            Comparer::with(2, BASELINE).and_older(engine),
+        ] {
+            let found = Session::new(2, comparer).compare(20_000).err();
             let said = found.map(|difference| difference.said.0);
             assert_eq!(said, Some(engine.name));
         }

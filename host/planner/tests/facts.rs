@@ -4,12 +4,12 @@ use planner::drive::{drive, Disabler};
 use planner::lane::Lane;
 use planner::plan::Plan;
 use planner::plans::{
-    chain, chain_bad, maximal, philosophers, robots, sample, sums, tasks, wet_bales,
+    chain, chains, maximal, philosophers, robots, sample, sums, tasks, wet_bales,
 };
 use planner::rng::Rng;
 use reference::calls;
 use reference::sums::{counted, Past};
-use yard::{Answer, CANCELLED, COMMITTED, IMAGE_BYTES, REFUSED};
+use yard::{Answer, CANCELLED, COMMITTED, IMAGE_BYTES, PENNED, REFUSED};
 
 fn lane(plan: Plan) -> Lane {
     Lane::start(plan.bytes()).unwrap()
@@ -100,7 +100,7 @@ fn the_top_of_the_chain_goes_first() {
 
 #[test]
 fn the_bottom_of_the_bad_chain_is_tried_last() {
-    let mut lane = lane(chain_bad::plan());
+    let mut lane = lane(chains::lowest_good());
     for i in (1..64).rev() {
         assert_eq!(lane.offered(), 1 << i);
         assert_eq!(lane.attempt(i - 1), answer(REFUSED, 18));
@@ -112,7 +112,7 @@ fn the_bottom_of_the_bad_chain_is_tried_last() {
 
 #[test]
 fn every_settling_of_the_bad_chain_finds_all_others_enabled_and_bad() {
-    let mut lane = lane(chain_bad::plan());
+    let mut lane = lane(chains::lowest_good());
     for _ in 0..3 {
         assert_eq!(settled(&mut lane, 1), [0]);
         let kept = lane.image;
@@ -120,6 +120,37 @@ fn every_settling_of_the_bad_chain_finds_all_others_enabled_and_bad() {
             assert_eq!(lane.attempt(i), answer(CANCELLED, i));
         }
         lane.image = kept;
+    }
+}
+
+#[test]
+fn every_settling_of_the_good_chain_commits_the_top_and_leaves_all_enabled() {
+    let mut lane = lane(chains::all_good());
+    for _ in 0..3 {
+        assert_eq!(lane.offered(), 1 << 63);
+        assert_eq!(settled(&mut lane, 1), [63]);
+    }
+    assert_eq!(lane.attempt(0), answer(REFUSED, 18));
+}
+
+#[test]
+fn a_chain_without_a_good_move_is_penned_with_every_mark() {
+    let downwards: Vec<u32> = (0..64).rev().collect();
+    let turned: Vec<u32> = (1..64).chain([0]).collect();
+    for (plan, from_the_top) in [
+        (chains::none_good(), downwards),
+        (chains::none_good_turned(), turned),
+    ] {
+        let mut lane = lane(plan);
+        let started = lane.image;
+        for i in from_the_top {
+            assert_eq!(lane.offered(), 1 << i);
+            assert_eq!(lane.attempt(i), answer(CANCELLED, i));
+        }
+        let crossed_off = lane.image;
+        lane.image = started;
+        assert_eq!(lane.settle(), answer(PENNED, 0));
+        assert_eq!(lane.image, crossed_off);
     }
 }
 

@@ -66,15 +66,17 @@ fn every_plan_is_lawful_and_starts() {
 }
 
 #[test]
-fn every_plan_goes_on_settling() {
+fn every_plan_goes_on_settling_or_is_penned() {
     for (name, plan) in plans::all() {
+        let penned = ["chain-penned.plan", "chain-turned.plan"].contains(&name);
+        let kind = if penned {
+            yard::PENNED
+        } else {
+            yard::COMMITTED
+        };
         let mut lane = Lane::start(plan.bytes()).unwrap();
         for move_number in 0..5000 {
-            assert_eq!(
-                lane.settle().kind,
-                yard::COMMITTED,
-                "{name}, move {move_number}"
-            );
+            assert_eq!(lane.settle().kind, kind, "{name}, move {move_number}");
         }
     }
 }

@@ -172,5 +172,5 @@ fn every_plan_of_the_folder_is_shown_and_accepted() {
         }
         seen += 1;
     }
-    assert_eq!(seen, 13);
+    assert_eq!(seen, 16);
 }

@@ -24,12 +24,12 @@ pub fn answer(packed: u32) -> Answer {
     }
 }
 
-/// The calls of an engine with the interface of yard.h, by the names of its C functions; a build of before the logs has no such calls. A slice's pointer is
-/// never null, is valid for its length, and `&mut` keeps the image apart from the plan: all that yard.h asks of a caller.
+/// The calls of an engine with the interface of yard.h, by the names of its C functions. A slice's pointer is never null, is valid for its length, and
+/// `&mut` keeps the image apart from the plan: all that yard.h asks of a caller.
 #[macro_export]
 macro_rules! engine {
-    ($check:literal, $start:literal, $offered:literal, $bits:literal, $try:literal, $settle:literal
-     $(, $log:literal, $log_index:literal)?) => {
+    ($check:literal, $start:literal, $offered:literal, $bits:literal, $try:literal, $settle:literal, $log:literal,
+     $log_index:literal) => {
         mod raw {
             extern "C" {
                 #[link_name = $check]
@@ -70,22 +70,16 @@ macro_rules! engine {
                     image: *mut u8,
                     image_len: usize,
                 ) -> u32;
-                $(
-                    #[link_name = $log]
-                    pub fn log(
-                        plan: *const u8,
-                        plan_len: usize,
-                        log: *const u8,
-                        log_len: usize,
-                    ) -> u32;
-                    #[link_name = $log_index]
-                    pub fn log_index(
-                        plan: *const u8,
-                        plan_len: usize,
-                        log: *const u8,
-                        log_len: usize,
-                    ) -> u64;
-                )?
+                #[link_name = $log]
+                pub fn log(plan: *const u8, plan_len: usize, log: *const u8, log_len: usize)
+                    -> u32;
+                #[link_name = $log_index]
+                pub fn log_index(
+                    plan: *const u8,
+                    plan_len: usize,
+                    log: *const u8,
+                    log_len: usize,
+                ) -> u64;
             }
         }
 
@@ -129,19 +123,14 @@ macro_rules! engine {
             })
         }
 
-        $(
-            #[doc = concat!("The answer of ", $log, ".")]
-            pub fn log(plan: &[u8], log: &[u8]) -> $crate::Answer {
-                $crate::answer(unsafe {
-                    raw::log(plan.as_ptr(), plan.len(), log.as_ptr(), log.len())
-                })
-            }
+        pub fn log(plan: &[u8], log: &[u8]) -> $crate::Answer {
+            $crate::answer(unsafe { raw::log(plan.as_ptr(), plan.len(), log.as_ptr(), log.len()) })
+        }
 
-            #[doc = concat!("The index of the first wrong entry; 0 where ", $log, " does not answer wrong.")]
-            pub fn log_index(plan: &[u8], log: &[u8]) -> u64 {
-                unsafe { raw::log_index(plan.as_ptr(), plan.len(), log.as_ptr(), log.len()) }
-            }
-        )?
+        /// The index of the first wrong entry; 0 where the log's answer is not wrong.
+        pub fn log_index(plan: &[u8], log: &[u8]) -> u64 {
+            unsafe { raw::log_index(plan.as_ptr(), plan.len(), log.as_ptr(), log.len()) }
+        }
     };
 }
 

@@ -1,7 +1,4 @@
-//! Compares every call of libyard.a with that of an older build as well, whose calls are named old_; with --old on plans without added oracles alone.
-//! By the older build an interaction that ends bad may hold others down, marked or not. It is left out of the calls on a lane in which the reference sees an enabled interaction above
-//! another, where alone that can be told, and it is said how many these are and in how many it differs. In all others its answer and image must be the same.
-//! It has no calls on logs, and is not asked for any.
+//! Compares every call of libyard.a with that of an older build as well, whose calls are named old_: answers and images must be the same.
 
 use std::process::ExitCode;
 
@@ -16,7 +13,9 @@ mod old {
         "old_offered",
         "old_offered_bits",
         "old_try",
-        "old_settle"
+        "old_settle",
+        "old_log",
+        "old_log_index"
     );
 }
 
@@ -28,7 +27,8 @@ const OLD: Engine = Engine {
     bits: old::offered_bits,
     attempt: old::attempt,
     settle: old::settle,
-    logs: None,
+    log: old::log,
+    log_index: old::log_index,
 };
 
 fn main() -> ExitCode {

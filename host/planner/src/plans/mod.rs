@@ -1,7 +1,7 @@
 //! The plans of the folder plans/, one file each.
 
 pub mod chain;
-pub mod chain_bad;
+pub mod chains;
 pub mod maximal;
 pub mod philosophers;
 pub mod robots;
@@ -23,7 +23,10 @@ pub fn all() -> Vec<(&'static str, Plan)> {
         ("robots-100.plan", robots::plan(100)),
         ("tasks.plan", tasks::plan()),
         ("chain.plan", chain::plan()),
-        ("chain-bad.plan", chain_bad::plan()),
+        ("chain-good.plan", chains::all_good()),
+        ("chain-bad.plan", chains::lowest_good()),
+        ("chain-penned.plan", chains::none_good()),
+        ("chain-turned.plan", chains::none_good_turned()),
         ("maximal.plan", maximal::plan()),
         ("maximal-oracles.plan", maximal::with_oracles()),
         ("wet-bales.plan", wet_bales::plan()),

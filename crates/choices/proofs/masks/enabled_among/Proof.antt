@@ -1,5 +1,5 @@
 use Rattle.semantics.proofs.Basics.{and-both, both-and}
-use Rattle.choices.proofs.MaskLaws.{passed, passed-none, passed-all, lowest-held, still-inside, passed-yes, passed-no}
+use Rattle.words.proofs.Gather.{passed, passed-none, passed-all, lowest-held, still-inside, passed-yes, passed-no}
 use Rattle.layout.proofs.Sections.{laid-accepted}
 use Rattle.semantics.specs.Bytes.{bit, withBit}
 use Rattle.semantics.specs.Plan.{interactions}

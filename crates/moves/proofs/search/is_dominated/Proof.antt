@@ -6,7 +6,8 @@ use Rattle.semantics.specs.Plan.{interactions, below}
 use Rattle.semantics.specs.Move.{Configuration, enabled}
 use Rattle.layout.proofs.Sections.{laid-accepted}
 use Rattle.choices.proofs.ChoiceLaws.{table-in}
-use Rattle.choices.proofs.MaskLaws.{held-inside, above-inside}
+use Rattle.words.proofs.Gather.{held-inside}
+use Rattle.ranks.proofs.StandingLaws.{above-inside}
 use Rattle.lane.specs.Runs.{lent}
 use Rattle.moves.proofs.SearchLaws.{above-held, dominated-above}
 use borrow.Author.Needs.{needs}

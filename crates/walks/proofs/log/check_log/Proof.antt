@@ -1,5 +1,6 @@
 use mathlib.Core.Path.{_≡_, sym, ap, _∙_}
 use Prim.Native.Nat.{_%_}
+use lib.Bits.{and-mask}
 use lib.ListN.{length}
 use Rattle.semantics.specs.Plan.{Plan}
 use Rattle.semantics.specs.Rules.{planRefusal}
@@ -26,7 +27,7 @@ accepted : (c : tie.Else1) → planRefusal (plan c) ≡ 0
 accepted c = sym (c .before .check .ensures) ∙ c .if1 .left
 
 even : (c : tie.Else2) → length (log (c .before)) % 2 ≡ 0
-even c = c .if2 .left
+even c = sym (and-mask (length (log (c .before))) 1) ∙ c .if2 .left
 
 abbrev begins : tie.After-good2 → tie.After-initial
 begins c = c .before .before
@@ -61,7 +62,7 @@ turned-away-requires-2 c κs = search needs
 returns-2 : tie.Need-returns-2
 returns-2 c =
     let k = c .before .before in
-    c .turned-away2 .ensures ∙ sym (log-21 (plan k) (log k) (accepted k) (c .before .if2 .taken))
+    c .turned-away2 .ensures ∙ sym (log-21 (plan k) (log k) (accepted k) (λ z. c .before .if2 .taken (and-mask (length (log k)) 1 ∙ z)))
 
 initial-requires : tie.Need-initial-requires
 initial-requires c κs = accepted (c .before)

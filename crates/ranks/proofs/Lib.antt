@@ -1,0 +1,4 @@
+pub mod ClimbLaws
+pub mod RankRows
+pub mod RankWalk
+pub mod StandingLaws

@@ -1,0 +1,2 @@
+pub mod RankRow
+pub mod Standing
