@@ -5,8 +5,8 @@
  * A call reads inside the lengths given to it, ends, keeps nothing, and needs no test before it:
  * a refusal is an answer like any other and changes no byte. A lawful plan has at most 16128 bytes.
  *
- * The caller owes that each pointer is not null and valid for its length, that the image does not overlap
- * the plan, and that nobody else writes plan, image or log during the call.
+ * The caller owes that each pointer is not null, even where the length is 0, and valid for its length, that the
+ * image does not overlap the plan or a list, and that nobody else writes plan, image, log or list during the call.
  */
 #ifndef YARD_H
 #define YARD_H
@@ -18,7 +18,10 @@
 extern "C" {
 #endif
 
-enum { YARD_IMAGE_BYTES = 312 }; /* the image of a lane */
+enum {
+    YARD_IMAGE_BYTES = 312, /* the image of a lane */
+    YARD_LIST_MOVES = 8     /* the most moves of a list, 2 bytes each */
+};
 
 /* Where an image keeps what, for a reader of images; a number has its lowest byte first. */
 enum yard_image_place {
@@ -27,20 +30,21 @@ enum yard_image_place {
     YARD_IMAGE_INTERACTIONS = 7, /* 1 byte: how many interactions */
     YARD_IMAGE_ORACLE = 8,       /* 1 byte an oracle, 4 in all: its state, 0 for an added oracle that the plan lacks */
     YARD_IMAGE_PLAN_NUMBER = 12, /* 4 bytes: the number of the plan */
-    YARD_IMAGE_MARKS = 16,       /* 8 bytes: bit i for interaction i, tried in this state and ending bad */
+    YARD_IMAGE_MARKS = 16,       /* 8 bytes: bit i for interaction i, tried in this state and not ending good */
     YARD_IMAGE_LOCATIONS = 24,   /* 1 byte a component */
     YARD_IMAGE_LAST_PORTS = 40,  /* 1 byte a component: the port of its last move, 255 for none yet */
     YARD_IMAGE_VALUES = 56       /* 4 bytes a variable: a signed number */
 };
 
+/* A move ends good where the verdict after it, the lowest of the oracles' verdicts, is 2 or 3; a lane may pass through 1 inside a list alone. */
 enum yard_kind {
     YARD_ACCEPTED = 0,  /* number 0 */
-    YARD_COMMITTED = 1, /* number: the interaction; the image holds the lane after it, with no marks */
-    YARD_CANCELLED = 2, /* number: the interaction; its mark is set and no other byte differs */
+    YARD_COMMITTED = 1, /* number: the interaction, or of a list how many entries it has; the image holds the lane after it, with no marks */
+    YARD_CANCELLED = 2, /* number: the interaction, whose mark is set and no other byte differs; or of a list where it stops, and no byte changes */
     YARD_STALLED = 3,   /* number 0: no move is enabled; no byte changes */
     YARD_PENNED = 4,    /* number 0: moves are enabled, and none of them ends good; every enabled one is marked */
     YARD_REFUSED = 5,   /* number: one of enum yard_refusal; no byte changes */
-    YARD_WRONG = 6      /* number: why an entry of a log is wrong, 16, 17 or 18, or 0 where the move ends bad; yard_log_index says which entry */
+    YARD_WRONG = 6      /* number: why an entry of a log is wrong, 16, 17 or 18, or 0 where it does not end good; yard_log_index says which entry */
 };
 
 /* Why a call was refused. The first that applies, in the order of this list, is the answer. */
@@ -53,19 +57,20 @@ enum yard_refusal {
     YARD_BAD_TRANSITION = 6,  /* plan: a transition record */
     YARD_BAD_INTERACTION = 7, /* plan: an interaction record */
     YARD_BAD_RANK = 8,        /* plan: the ranks are not a strict order on the interactions */
-    YARD_BAD_ORACLE = 9,      /* plan: a verdict, a next state, or a follower of a final verdict */
+    YARD_BAD_ORACLE = 9,      /* plan: a verdict past 3, a next state, or a follower of a final verdict, 0 or 3 */
     YARD_BAD_ADDED = 20,      /* plan: the same in an added oracle */
     YARD_BAD_CODE = 10,       /* plan: a span or a code word */
     YARD_BAD_LENGTH = 11,     /* image: not 312 bytes */
     YARD_OTHER_PLAN = 12,     /* image: bytes 0-7 or 12-15 do not match form 1 and the plan */
-    YARD_BAD_STATE = 13,      /* image: an oracle state, location or last port out of range or bad, or an unused entry filled */
+    YARD_BAD_STATE = 13,      /* image: an oracle state out of range or not good, a location or last port out of range, or an unused entry filled */
     YARD_FALSE_MARK = 14,     /* image: a mark on a move that is not enabled or would end good, or below an enabled one without a mark */
+    YARD_BAD_LIST = 22,       /* list: empty, an odd number of bytes, or more than YARD_LIST_MOVES moves */
     YARD_ODD_LOG = 21,        /* log: an odd number of bytes */
-    YARD_BAD_START = 15,      /* start, log: the starting state is bad */
+    YARD_BAD_START = 15,      /* start, log: the starting state is not good */
     YARD_NO_SUCH_MOVE = 16,   /* try, entry of a log: the number is not an interaction of the plan */
     YARD_NOT_ENABLED = 17,    /* try, entry of a log: the move is not enabled */
     YARD_OUTRANKED = 18,      /* try: an enabled move that is not marked lies above it; entry of a log: an enabled move that ends good does */
-    YARD_MARKED = 19          /* try: it was tried in this state and ends bad */
+    YARD_MARKED = 19          /* try: it was tried in this state and does not end good */
 };
 
 #define YARD_KIND(answer) ((uint32_t)(answer) >> 16)
@@ -90,9 +95,15 @@ uint32_t yard_try(const uint8_t *plan, size_t plan_len, uint8_t *image, size_t i
  * refused with 1 to 14 or 20. The marks make no difference to it. */
 uint32_t yard_settle(const uint8_t *plan, size_t plan_len, uint8_t *image, size_t image_len);
 
+/* Hands in a list of moves, 16 bits each, lowest byte first. An entry is allowed where it is enabled after those before it, its verdict is not 0,
+ * and no enabled move above it leads to a verdict other than 0; the marks make no difference. Committed where all are allowed in turn and the last
+ * ends good, with the number of entries; cancelled with the index, from 0, of the first entry that is not allowed (one that is not an interaction
+ * of the plan included), or with the number of entries where only the end is not good; or refused with 1 to 14, 20 or 22. Unless it is committed
+ * whole the image is untouched, marks included. */
+uint32_t yard_list(const uint8_t *plan, size_t plan_len, uint8_t *image, size_t image_len, const uint8_t *moves, size_t moves_len);
+
 /* Whether a log is a run from the starting state: moves of 16 bits each, lowest byte first, each of them enabled and ending good after those
- * before it, with no enabled move above it that ends good. Accepted (an empty log too, whose pointer is not null either), wrong, or refused
- * with 1 to 10, 15, 20 or 21. */
+ * before it, with no enabled move above it that ends good. Accepted (an empty log too), wrong, or refused with 1 to 10, 15, 20 or 21. */
 uint32_t yard_log(const uint8_t *plan, size_t plan_len, const uint8_t *log, size_t log_len);
 
 /* The index, from 0, of the first wrong entry; 0 where yard_log does not answer wrong. */

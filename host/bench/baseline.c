@@ -135,10 +135,11 @@ static inline int ranks_ok(const Plan *x) {
 static inline int oracle_ok(const Plan *x, const uint8_t *table, unsigned states) {
   const uint8_t *end = table + x->row * states;
   for (const uint8_t *r = table; r < end; r += x->row) {
-    if (r[0] == 1 || r[0] > 3) return 0;
+    if (r[0] > 3) return 0;
+    int final = r[0] == 0 || r[0] == 3;
     for (unsigned a = 1; a < x->row; a++) {
       if (r[a] >= states) return 0;
-      if (r[0] != 2 && table[x->row * r[a]] != r[0]) return 0;
+      if (final && table[x->row * r[a]] != r[0]) return 0;
     }
   }
   return 1;
@@ -259,13 +260,18 @@ typedef struct {
   uint64_t enabled;
 } Moves;
 
+/* Chooses transition t, which leaves from the component's location, where no lower one is and its guard holds. */
+static inline void consider(const Plan *x, const Lane *lane, Moves *m, unsigned t) {
+  const uint8_t *r = x->trans + 12 * t;
+  uint16_t *slot = &m->chosen[r[0]][r[2]];
+  if (*slot == 0 && holds(x, r + 4, lane)) *slot = (uint16_t)(t + 1);
+}
+
 static inline void choose(const Plan *x, const Lane *lane, Moves *m) {
   memset(m->chosen, 0, x->C * sizeof m->chosen[0]);
   for (unsigned t = 0; t < x->T; t++) {
     const uint8_t *r = x->trans + 12 * t;
-    if (lane->loc[r[0]] != r[1]) continue;
-    uint16_t *slot = &m->chosen[r[0]][r[2]];
-    if (*slot == 0 && holds(x, r + 4, lane)) *slot = (uint16_t)(t + 1);
+    if (lane->loc[r[0]] == r[1]) consider(x, lane, m, t);
   }
 }
 
@@ -296,9 +302,13 @@ static inline States added_next(const Plan *x, States q, unsigned letter) {
   return next;
 }
 
-static inline int added_good(const Plan *x, States q) {
-  for (unsigned k = 0; k < x->A; k++) if (!x->added[k][x->row * added_state(q, k)]) return 0;
-  return 1;
+/* The lowest of v and the verdicts of the added oracles. */
+static inline unsigned added_verdict(const Plan *x, States q, unsigned v) {
+  for (unsigned k = 0; k < x->A; k++) {
+    unsigned own = x->added[k][x->row * added_state(q, k)];
+    if (own < v) v = own;
+  }
+  return v;
 }
 
 static inline States judged(const Plan *x, States q, Lane *lane) {
@@ -308,9 +318,20 @@ static inline States judged(const Plan *x, States q, Lane *lane) {
   return ADDED(x) ? next | added_next(x, q, letter) : next;
 }
 
-static inline int good(const Plan *x, States q) {
-  return x->oracle[x->row * (q & 255)] != 0 && (!ADDED(x) || added_good(x, q));
+/* The lowest of the oracles' verdicts. */
+static inline unsigned verdict(const Plan *x, States q) {
+  unsigned v = x->oracle[x->row * (q & 255)];
+  return ADDED(x) ? added_verdict(x, q, v) : v;
 }
+
+#ifndef GOOD
+#define GOOD 2 /* the lowest good verdict; 1 plants a fault, for host/compare to find */
+#endif
+
+static inline int good(const Plan *x, States q) { return verdict(x, q) >= GOOD; }
+
+/* Not good, perhaps, but inside a list it may be passed through. */
+static inline int tolerable(const Plan *x, States q) { return verdict(x, q) != 0; }
 
 /* Makes enabled move i on the lane; the oracles' states after its event. */
 ALWAYS_INLINE States make(const Plan *x, Lane *lane, States q, const Moves *m, unsigned i) {
@@ -502,6 +523,55 @@ uint32_t base_settle(const uint8_t *plan, size_t plan_len, uint8_t *image, size_
   if (!s.moves.enabled) return ANSWER(STALLED, 0);
   memcpy(image + 16, &s.moves.enabled, 8);
   return ANSWER(PENNED, 0);
+}
+
+/* ---- lists ---- */
+
+/* Chooses anew for the components of an interaction that was made: a guard reads its own component's variables, so no other choice changes. */
+static inline void choose_again(const Plan *x, const Lane *lane, Moves *m, const uint8_t *inter) {
+  EACH_PART(c, inter, memset(m->chosen[c], 0, sizeof m->chosen[c]););
+  for (unsigned t = 0; t < x->T; t++) {
+    const uint8_t *r = x->trans + 12 * t;
+    if (inter[r[0]] != 255 && lane->loc[r[0]] == r[1]) consider(x, lane, m, t);
+  }
+}
+
+static inline int enabled_now(const Site *s, unsigned i) {
+  return enabled(&s->plan, &s->lane, &s->moves, s->plan.inter + 24 * i);
+}
+
+/* Whether one of these interactions is enabled and leads to a verdict other than 0. */
+static __attribute__((noinline)) int some_tolerable(const Site *s, uint64_t set) {
+  Lane new;
+  for (; set; set &= set - 1) {
+    unsigned i = lowest(set);
+    if (enabled_now(s, i) && tolerable(&s->plan, made(s, i, &new))) return 1;
+  }
+  return 0;
+}
+
+/* Makes an entry on the lane itself; 0 where it is not allowed. */
+static inline int passed(Site *s, unsigned i) {
+  if (i >= s->plan.I || !enabled_now(s, i)) return 0;
+  uint64_t up = above(&s->plan, i);
+  if (up && some_tolerable(s, up)) return 0;
+  s->oracles = make(&s->plan, &s->lane, s->oracles, &s->moves, i);
+  return tolerable(&s->plan, s->oracles);
+}
+
+/* The image is written once all entries are made. */
+uint32_t base_list(const uint8_t *plan, size_t plan_len, uint8_t *image, size_t image_len, const uint8_t *list, size_t list_len) {
+  Site s;
+  unsigned n = enter(&s, plan, plan_len, image, image_len), entries = (unsigned)(list_len / 2);
+  if (n) return ANSWER(REFUSED, n);
+  if (!list_len || list_len % 2 || list_len > 16) return ANSWER(REFUSED, 22);
+  for (unsigned k = 0; k < entries; k++) {
+    if (k) choose_again(&s.plan, &s.lane, &s.moves, s.plan.inter + 24 * r16(list + 2 * k - 2));
+    if (!passed(&s, r16(list + 2 * k))) return ANSWER(CANCELLED, k);
+  }
+  if (!good(&s.plan, s.oracles)) return ANSWER(CANCELLED, entries);
+  commit(image, s.oracles, &s.lane);
+  return ANSWER(COMMITTED, entries);
 }
 
 /* ---- logs ---- */

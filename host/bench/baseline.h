@@ -9,6 +9,7 @@
   uint64_t pre##_offered_bits(const uint8_t *, size_t, const uint8_t *, size_t); \
   uint32_t pre##_try(const uint8_t *, size_t, uint8_t *, size_t, uint32_t); \
   uint32_t pre##_settle(const uint8_t *, size_t, uint8_t *, size_t); \
+  uint32_t pre##_list(const uint8_t *, size_t, uint8_t *, size_t, const uint8_t *, size_t); \
   uint32_t pre##_log(const uint8_t *, size_t, const uint8_t *, size_t); \
   uint64_t pre##_log_index(const uint8_t *, size_t, const uint8_t *, size_t);
 CALLS(base)

@@ -13,6 +13,7 @@ enum { IMAGE = 312, BATCH_NS = 50000 };  /* a batch is short, so that some fall 
 enum { ENGINES = 4 };                    /* at most */
 enum { PLANS = 64, PASSES = 10 };        /* passes over all plans: other work falls on no cell's rounds alone */
 enum { DEPTHS = 7, DEPTH = 592 };        /* places of the stack within a page, tried in turn */
+enum { LIST = 16 };                      /* bytes of the longest list */
 
 typedef struct {
   uint32_t (*check)(const uint8_t *, size_t);
@@ -20,26 +21,28 @@ typedef struct {
   uint64_t (*bits)(const uint8_t *, size_t, const uint8_t *, size_t);
   uint32_t (*try)(const uint8_t *, size_t, uint8_t *, size_t, uint32_t);
   uint32_t (*settle)(const uint8_t *, size_t, uint8_t *, size_t);
+  uint32_t (*list)(const uint8_t *, size_t, uint8_t *, size_t, const uint8_t *, size_t);
 } Engine;
 
-#define ENGINE(pre) {pre##_check, pre##_start, pre##_offered_bits, pre##_try, pre##_settle}
+#define ENGINE(pre) {pre##_check, pre##_start, pre##_offered_bits, pre##_try, pre##_settle, pre##_list}
 
 typedef struct { uint8_t bytes[65536]; size_t len; } Plan;
 typedef struct { _Alignas(4096) uint8_t bytes[IMAGE]; } Image; /* a page, so that no engine has the better place */
 
-enum column { CHECK, START, OFFERED, COMMITTED, CANCELLED, FIRST, SETTLE, COLUMNS };
+enum column { CHECK, START, OFFERED, COMMITTED, CANCELLED, FIRST, SETTLE, WHOLE, STOPPED, COLUMNS };
 static const char *const columns[COLUMNS] = {
-  "check", "start", "offered", "try, committed", "try, cancelled", "settle, first", "settle, long run",
+  "check", "start", "offered", "try, committed", "try, cancelled", "settle, first", "settle, long run", "list, committed", "list, cancelled",
 };
 
-/* A try and a first settling begin from the image each time (its copying is timed too); the long run goes on from where it stopped. */
-typedef struct { enum column column; uint8_t image[IMAGE]; uint32_t number; } Job;
+/* A try, a first settling and a list begin from the image each time (its copying is timed too); the long run goes on from where it stopped. */
+typedef struct { enum column column; uint8_t image[IMAGE]; uint32_t number; uint8_t list[LIST]; size_t list_len; } Job;
 
 /* there: whether the plan has this job. differ: whether the engines' answers or images did. best: ns a call of each engine. */
 typedef struct { int there, differ; Job job; double best[ENGINES]; } Cell;
 
 static Plan plans[PLANS];
 static Cell cells[PLANS][COLUMNS];
+static int have_lists = 1; /* whether all engines do */
 
 static double now(void) {
   struct timespec t;
@@ -61,6 +64,13 @@ static uint64_t repeat(const Engine *e, const Plan *p, const Job *job, uint8_t *
     for (unsigned k = 0; k < times; k++) {
       memcpy(b, job->image, IMAGE);
       sum += e->settle(plan, len, b, IMAGE);
+    }
+    break;
+  case WHOLE:
+  case STOPPED:
+    for (unsigned k = 0; k < times; k++) {
+      memcpy(b, job->image, IMAGE);
+      sum += e->list(plan, len, b, IMAGE, job->list, job->list_len);
     }
     break;
   default:
@@ -136,12 +146,58 @@ static int find_try(const Plan *p, uint32_t kind, Job *job) {
   return 0;
 }
 
+static void add_to_list(Job *job, uint32_t number) {
+  job->list[job->list_len++] = (uint8_t)number;
+  job->list[job->list_len++] = (uint8_t)(number >> 8);
+}
+
+/* The answer to the job's list with one more entry. */
+static uint32_t with_entry(const Plan *p, Job job, uint32_t number) {
+  add_to_list(&job, number);
+  return base_list(p->bytes, p->len, job.image, IMAGE, job.list, job.list_len);
+}
+
+/* An entry that goes on from the job's list: from a good state to verdict 1 where one does, else to a good state; -1 where there is none. */
+static int next_entry(const Plan *p, const Job *job, int at_half) {
+  int good = -1;
+  for (int i = 0; i < p->bytes[16]; i++) {
+    uint32_t answer = with_entry(p, *job, (uint32_t)i);
+    if (answer >> 16 == 1 && good < 0) good = i;
+    if (answer >> 16 == 2 && (answer & 65535) * 2 == job->list_len + 2 && !at_half) return i;
+  }
+  return good;
+}
+
+/* A list from the start on of up to eight moves, through verdict 1 wherever that comes next; the longest part of it that is committed. */
+static int find_list(const Plan *p, Job *job) {
+  size_t whole = 0;
+  int at_half = 0, next;
+  if (base_start(p->bytes, p->len, job->image, IMAGE)) return 0;
+  while (job->list_len < LIST && (next = next_entry(p, job, at_half)) >= 0) {
+    at_half = with_entry(p, *job, (uint32_t)next) >> 16 == 2;
+    add_to_list(job, (uint32_t)next);
+    if (!at_half) whole = job->list_len;
+  }
+  job->list_len = whole;
+  return whole > 0;
+}
+
+/* The same, with a last entry that no plan allows. */
+static int find_stop(const Plan *p, Job *job) {
+  if (!find_list(p, job)) return 0;
+  job->list_len -= 2;
+  add_to_list(job, 65535);
+  return 1;
+}
+
 /* The job of a column; 0 where the plan has none. */
 static int make_job(const Plan *p, enum column column, Job *job) {
   memset(job, 0, sizeof *job);
   job->column = column;
   if (column == COMMITTED) return find_try(p, 1, job);
   if (column == CANCELLED) return find_try(p, 2, job);
+  if (column == WHOLE) return have_lists && find_list(p, job);
+  if (column == STOPPED) return have_lists && find_stop(p, job);
   if (column == OFFERED || column == FIRST || column == SETTLE) base_start(p->bytes, p->len, job->image, IMAGE);
   return 1;
 }

@@ -1,5 +1,6 @@
 /* The most stack that each call of libyard.a takes, in bytes below the caller's stack pointer: the calls are made on a painted stack, over
-   walks by random tries through the plans, marks included. The log is that of the walk's moves with the next try behind, right or wrong.
+   walks by random tries through the plans, marks included. The log is that of the walk's moves with the next try behind, right or wrong; the
+   list has the eight moves that settling goes on with, or fewer and the next try.
    measure-stack PLAN... */
 #define _GNU_SOURCE
 #include "scenes.h"
@@ -47,10 +48,20 @@ static void add_move(uint32_t number) {
   moves[moves_len++] = 0;
 }
 
+/* The moves that settling goes on with from the job's image, and where they end its try. */
+static void list_ahead(const Plan *p, Job *j) {
+  uint8_t b[IMAGE];
+  uint32_t answer;
+  memcpy(b, j->image, IMAGE);
+  while (j->list_len < LIST && (answer = base_settle(p->bytes, p->len, b, IMAGE)) >> 16 == 1) add_to_list(j, answer & 63);
+  if (j->list_len < LIST) add_to_list(j, j->number);
+}
+
 /* Raises most by every call on an image, the try by this number. */
 static void measure_at(const Plan *p, const uint8_t *b, uint32_t number, size_t *most) {
   Job j = {.number = number};
   memcpy(j.image, b, IMAGE);
+  list_ahead(p, &j);
   add_move(number);
   for (int c = 0; c < CALLS_MADE; c++) {
     j.column = (enum column)c;

@@ -1,16 +1,17 @@
-// Makes libbaseline.a of host/bench's C engine, with a copy whose sums wrap for the tests, and links it; links the older library's object, $OLD_OBJECT,
-// into `same`.
+// Makes libbaseline.a of host/bench's C engine, with two copies for the tests, one whose sums wrap and one to which verdict 1 is good, and links it;
+// links the older library's object, $OLD_OBJECT, into `same`.
 use std::env;
 use std::path::{Path, PathBuf};
 use std::process::Command;
 
-const CALLS: [&str; 8] = [
+const CALLS: [&str; 9] = [
     "check",
     "start",
     "offered",
     "offered_bits",
     "try",
     "settle",
+    "list",
     "log",
     "log_index",
 ];
@@ -19,10 +20,13 @@ fn main() {
     let bench = Path::new(&env::var("CARGO_MANIFEST_DIR").unwrap()).join("../bench");
     let out = PathBuf::from(env::var("OUT_DIR").unwrap());
     let source = bench.join("baseline.c");
-    let objects = [out.join("baseline.o"), out.join("wrapping.o")];
-    let renamed = CALLS.map(|call| format!("-Dbase_{call}=wrapping_{call}"));
+    let objects = ["baseline.o", "wrapping.o", "lenient.o"].map(|name| out.join(name));
+    let faults = [("wrapping", "-DWRAPS=1"), ("lenient", "-DGOOD=1")];
     run(&mut gcc(&source, &objects[0]));
-    run(gcc(&source, &objects[1]).arg("-DWRAPS=1").args(renamed));
+    for (object, (name, fault)) in objects[1..].iter().zip(faults) {
+        let renamed = CALLS.map(|call| format!("-Dbase_{call}={name}_{call}"));
+        run(gcc(&source, object).arg(fault).args(renamed));
+    }
     let library = out.join("libbaseline.a");
     run(Command::new("ar").arg("rcs").arg(library).args(&objects));
     for file in ["baseline.c", "baseline.h"] {

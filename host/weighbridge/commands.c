@@ -17,27 +17,62 @@ static void do_offered(struct bridge *b, const char *unused)
         report_answer(answer, "accepted");
 }
 
+static void put_move(uint8_t *bytes, uint32_t move)
+{
+    bytes[0] = (uint8_t)move;
+    bytes[1] = (uint8_t)(move >> 8);
+}
+
+/* Keeps moves that were made, as long as there is room for all of them. */
+static void keep_moves(struct bridge *b, const uint8_t *moves, size_t len)
+{
+    b->has_moves = b->has_moves && b->moves_len + len <= sizeof b->moves;
+    if (!b->has_moves)
+        return;
+    memcpy(b->moves + b->moves_len, moves, len);
+    b->moves_len += len;
+}
+
 /* Reports a try or a settling, and keeps the move that it made. */
 static void report_move(struct bridge *b, uint32_t answer)
 {
+    uint8_t move[2];
     report_answer(answer, "accepted");
-    if (YARD_KIND(answer) != YARD_COMMITTED)
-        return;
-    b->has_moves = b->has_moves && b->moves_len + 2 <= sizeof b->moves;
-    if (!b->has_moves)
-        return;
-    b->moves[b->moves_len++] = (uint8_t)YARD_NUMBER(answer);
-    b->moves[b->moves_len++] = (uint8_t)(YARD_NUMBER(answer) >> 8);
+    put_move(move, YARD_NUMBER(answer));
+    if (YARD_KIND(answer) == YARD_COMMITTED)
+        keep_moves(b, move, sizeof move);
+}
+
+/* Reads a decimal number, of one past 32 bits only as many digits as show that. Answers what follows them. */
+static const char *parse_digits(const char *text, uint64_t *number)
+{
+    for (*number = 0; isdigit((unsigned char)*text) && *number <= UINT32_MAX; text++)
+        *number = *number * 10 + (uint64_t)(*text - '0');
+    return text;
 }
 
 /* A decimal number of 32 bits, with nothing before or after it. */
 static bool parse_number(const char *text, uint32_t *number)
 {
-    uint64_t sum = 0;
-    for (; isdigit((unsigned char)*text) && sum <= UINT32_MAX; text++)
-        sum = sum * 10 + (uint64_t)(*text - '0');
+    uint64_t sum;
+    text = parse_digits(text, &sum);
     *number = (uint32_t)sum;
     return *text == '\0' && sum <= UINT32_MAX;
+}
+
+/* Decimal numbers of 16 bits with blanks between, as a list of moves. */
+static bool parse_moves(const char *text, uint8_t moves[LIST_BYTES], size_t *len)
+{
+    for (*len = 0; *text != '\0'; *len += 2) {
+        uint64_t move;
+        text = parse_digits(text, &move);
+        if (move > UINT16_MAX || *len + 2 > LIST_BYTES || (*text != '\0' && !isspace((unsigned char)*text)))
+            return false;
+        put_move(moves + *len, (uint32_t)move);
+        while (isspace((unsigned char)*text))
+            text++;
+    }
+    return true;
 }
 
 static void do_try(struct bridge *b, const char *text)
@@ -53,6 +88,21 @@ static void do_settle(struct bridge *b, const char *unused)
 {
     (void)unused;
     report_move(b, yard_settle(b->plan, b->plan_len, b->image, sizeof b->image));
+}
+
+/* A load in several moves: all of them are made, or none. */
+static void do_list(struct bridge *b, const char *text)
+{
+    uint8_t moves[LIST_BYTES];
+    size_t len;
+    if (!parse_moves(text, moves, &len)) {
+        puts("list needs move numbers from 0 to 65535, with blanks between");
+        return;
+    }
+    uint32_t answer = yard_list(b->plan, b->plan_len, b->image, sizeof b->image, moves, len);
+    report_list(answer, len / 2);
+    if (YARD_KIND(answer) == YARD_COMMITTED)
+        keep_moves(b, moves, len);
 }
 
 static void do_start(struct bridge *b, const char *unused)
@@ -177,6 +227,7 @@ static const struct command {
     {"offered", NULL, do_offered},
     {"try", "a move number", do_try},
     {"settle", NULL, do_settle},
+    {"list", "move numbers", do_list},
     {"weights", NULL, do_weights},
     {"locations", NULL, do_locations},
     {"marks", NULL, do_marks},
@@ -227,7 +278,7 @@ void bridge_obey(struct bridge *b, char *line)
     char *rest = cut_rest(name);
     const struct command *command = find(name);
     if (command == NULL)
-        puts("unknown command: say offered, try, settle, weights, locations, marks, save, load, plan, log, moves, start or quit");
+        puts("unknown command: say offered, try, settle, list, weights, locations, marks, save, load, plan, log, moves, start or quit");
     else if (command->needs == NULL && *rest != '\0')
         printf("%s stands alone on its line\n", command->name);
     else if (command->needs != NULL && *rest == '\0')

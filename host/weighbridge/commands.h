@@ -9,7 +9,8 @@
 enum {
     PLAN_BYTES = 16128,       /* the longest lawful plan */
     LOG_BYTES = 16 * 1048576, /* the longest log that is taken */
-    MOVES_BYTES = 1048576     /* the longest log that is kept of a lane's moves */
+    MOVES_BYTES = 1048576,    /* the longest log that is kept of a lane's moves */
+    LIST_BYTES = 256          /* the longest list that a line can say */
 };
 
 struct bridge {

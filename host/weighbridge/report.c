@@ -26,13 +26,14 @@ static const char *const refusals[] = {
     "the image is not a lane of this plan (ask the keeper of the image)",
     "the image holds a bad or impossible state (ask the keeper of the image)",
     "the image has a mark on a move that must have none (ask the keeper of the image)",
-    "the starting state of the plan is bad (ask the site)",
+    "the starting state of the plan is not good (ask the site)",
     "the plan has no move of this number (choose another)",
     "the move is not enabled now (choose another)",
     "a move of higher rank is enabled and not marked (choose another)",
     "the move was tried in this state and ends badly (choose another)",
     "an added oracle of the plan is faulty (ask the planner)",
     "the log has an odd number of bytes (ask whoever wrote it)",
+    "the list has no moves, more than 8, or an odd number of bytes (hand in 1 to 8 moves)",
 };
 
 static void report_refusal(uint32_t number)
@@ -66,6 +67,19 @@ void report_answer(uint32_t answer, const char *accepted)
     default:
         printf("answer %" PRIu32 " is unknown to this program (ask the programmer)\n", answer);
     }
+}
+
+void report_list(uint32_t answer, size_t entries)
+{
+    uint32_t number = YARD_NUMBER(answer);
+    if (YARD_KIND(answer) == YARD_COMMITTED)
+        printf("list of %" PRIu32 " move%s is done\n", number, number == 1 ? "" : "s");
+    else if (YARD_KIND(answer) != YARD_CANCELLED)
+        report_answer(answer, "accepted");
+    else if (number < entries)
+        printf("list is cancelled, nothing is changed: entry %" PRIu32 " is not allowed there\n", number);
+    else
+        puts("list is cancelled, nothing is changed: after its last move the lane would not be good");
 }
 
 /* Why an entry of a log is wrong. */

@@ -2,10 +2,14 @@
 #ifndef REPORT_H
 #define REPORT_H
 
+#include <stddef.h>
 #include <stdint.h>
 
 /* An answer of the engine in words; `accepted` is what to say for an accepted call. */
 void report_answer(uint32_t answer, const char *accepted);
+
+/* The answer on a list of so many entries in words. */
+void report_list(uint32_t answer, size_t entries);
 
 /* The answer on a log in words, with the index of its first wrong entry. */
 void report_log(uint32_t answer, uint64_t index);

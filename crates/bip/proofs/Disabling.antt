@@ -19,8 +19,8 @@ use Rattle.semantics.proofs.RuleLists.{Kept}
 use Rattle.semantics.proofs.RefusedUnchanged.{Refused, same-not-refused}
 use Rattle.semantics.proofs.RefusalConditions.{calling}
 use Rattle.semantics.proofs.AcceptedPlan.{accepted-plan}
-use Rattle.semantics.proofs.Images.{marks-back, configuration-back}
-use Rattle.semantics.proofs.Sound.{Sound, shaped, sound-initial}
+use Rattle.semantics.proofs.Images.{marks-back}
+use Rattle.semantics.proofs.Sound.{Sound, sound-initial}
 use Rattle.semantics.proofs.Ranking.{above-marked, unoutranked, eligible-enabled, eligible-top, eligible-from}
 use Rattle.semantics.proofs.ImagesRead.{marked-same}
 use Rattle.semantics.proofs.Demand3.{Starts, start-plan}
@@ -29,7 +29,7 @@ use Rattle.bip.specs.Steps.{Below, Chosen}
 use Rattle.bip.specs.Monitor.{Label, did, ε, Begins}
 use Rattle.bip.specs.Disabler.{Disabler, AllEnabled, interaction, recovery, continue, Disables, receives, recovers, continues, Supervised, supervised, SupervisedStep, continued, recovered}
 use Rattle.bip.proofs.Events.{begins-initial}
-use Rattle.bip.proofs.KnownImage.{Known, known, after-held, leaves}
+use Rattle.bip.proofs.KnownImage.{Known, known, written-held, after-held, leaves}
 use Rattle.bip.proofs.Settling.{settle-is}
 use Rattle.bip.proofs.Components.{state-of}
 use Rattle.bip.proofs.Composites.{chosen-exactly}
@@ -106,7 +106,7 @@ start-holds p b e s begins all =
     rw (start-bytes p b e)
     (record {
       configuration =
-          configuration-back p (initial p) 0 (shaped p (initial p) (sound-initial p (accepted-plan p (start-plan p b e))))
+          written-held p (initial p) (sound-initial p (accepted-plan p (start-plan p b e)))
           ∙ sym (begins-initial p (s .configuration) begins);
       marks = λ i l. no-marks p (initial p) i ∙ sym (ap not (all i));
     })

@@ -12,6 +12,7 @@ use Rattle.bip.specs.Monitor.{Letter, Satisfies, Reads, Allows, Label, d
 use Rattle.bip.proofs.Events.{event-once}
 use Rattle.bip.proofs.MonitorRules.{did-not-ε, commits-means}
 use Rattle.bip.proofs.OracleRules.{reads-is, reads-next}
+use Rattle.bip.proofs.Paths.{Into, into-throughout}
 
 -- ---- simulation
 
@@ -44,52 +45,51 @@ pub reads-other : (p : Plan) (q : State) {θ θ' : List ℕ} (e e' : Letter p) �
 reads-other p q {θ} {θ'} e e' h h' r =
     subst (λ (x : List ℕ). Reads p θ e' x) (ap (nextStates p θ) (event-once p q e' h' ∙ sym (event-once p q e h)) ∙ sym (reads-is r)) (reads-next p θ e')
 
+-- an event read, to a verdict that allows
+abbrev ReadsAllowed : (p : Plan) → List ℕ → Letter p → List ℕ → Type 0
+ReadsAllowed p = Into (Reads p) (Allows p)
+
 -- what a trace of the composition is, of the system and the oracles
 record Followed (p : Plan) (system : System) (c : Configuration) (σ : List (Label × Configuration)) : Type 0 where
   events : (es : List (Letter p)) × Shows p (stutter-free (erased σ)) es
-  reading : (es : List (Letter p)) → Shows p (stutter-free (erased σ)) es → Path (Reads p) (c .oracles) es (endOf c σ .oracles)
-  allowed : Allows p (endOf c σ .oracles)
+  reading : (es : List (Letter p)) → Shows p (stutter-free (erased σ)) es → Path (ReadsAllowed p) (c .oracles) es (endOf c σ .oracles)
   of-system : Trace system (c .state) (stutter-free (erased σ))
   ends : endOf (c .state) (stutter-free (erased σ)) ≡ endOf c σ .state
 
 module _ {p : Plan} {system : System} where
-  followed-step : {i : ℕ} {c d : Configuration} {l : Label} {σ : List (Label × Configuration)} → Monitored p system i c l d → Allows p (c .oracles)
-      → (Allows p (d .oracles) → Followed p system d σ) → Followed p system c ((l, d) ∷ σ)
+  followed-step : {i : ℕ} {c d : Configuration} {l : Label} {σ : List (Label × Configuration)} → Monitored p system i c l d
+      → Followed p system d σ → Followed p system c ((l, d) ∷ σ)
   unfolding erased stutter-free endOf
-  followed-step {i} {σ} (rule-2 {q} {q'} {θ} {θ'} {e} s h a b) w k =
-      let m = commits-means b in
-      let f = k (m .1) in
+  followed-step {i} {σ} (rule-2 {q} {q'} {θ} {θ'} {e} s h a b) f =
       record {
         events = (e ∷ f .events .0, shown h (f .events .1));
-        reading = read f (m .0);
-        allowed = f .allowed;
+        reading = read f (commits-means b);
         of-system = onward s (f .of-system);
         ends = f .ends;
       }
     where
-      read : Followed p system (record { state = q'; oracles = θ' }) σ → Reads p θ e θ' → (es : List (Letter p)) → Shows p ((i, q') ∷ stutter-free (erased σ)) es
-          → Path (Reads p) θ es (endOf (record { state = q'; oracles = θ' }) σ .oracles)
-      read f r es (shown {e = e'} g later) = further (reads-other p q' e e' h g r) (f .reading _ later)
-  followed-step (rule-3 s h a b) w k = let f = k w in
-      record { events = f .events; reading = f .reading; allowed = f .allowed; of-system = f .of-system; ends = f .ends }
+      read : Followed p system (record { state = q'; oracles = θ' }) σ → ReadsAllowed p θ e θ' → (es : List (Letter p)) → Shows p ((i, q') ∷ stutter-free (erased σ)) es
+          → Path (ReadsAllowed p) θ es (endOf (record { state = q'; oracles = θ' }) σ .oracles)
+      read f (r, w) es (shown {e = e'} g later) = further (reads-other p q' e e' h g r, w) (f .reading _ later)
+  followed-step (rule-3 s h a b) f = record { events = f .events; reading = f .reading; of-system = f .of-system; ends = f .ends }
 
-  followed : {c : Configuration} {σ : List (Label × Configuration)} → Trace (MonitoredStep p system) c σ → Allows p (c .oracles) → Followed p system c σ
+  followed : {c : Configuration} {σ : List (Label × Configuration)} → Trace (MonitoredStep p system) c σ → Followed p system c σ
   unfolding erased stutter-free endOf
-  followed still w = record { events = ([], ended); reading = none; allowed = w; of-system = still; ends = refl }
+  followed still = record { events = ([], ended); reading = none; of-system = still; ends = refl }
     where
-      none : {θ : List ℕ} (es : List (Letter p)) → Shows p [] es → Path (Reads p) θ es θ
+      none : {θ : List ℕ} (es : List (Letter p)) → Shows p [] es → Path (ReadsAllowed p) θ es θ
       none es ended = here
-  followed (onward m r) w = followed-step (m .1) w (λ v. followed r v)
+  followed (onward m r) = followed-step (m .1) (followed r)
 
 -- 002 corollary 1: along any trace of the composition from a good judged beginning the events stay in Π, and the stutter-free trace is one of the
 -- system
 pub enforced : (p : Plan) (system : System) (c : Configuration) (begins : Begins p c) → Allows p (c .oracles) → (σ : List (Label × Configuration))
     → Trace (MonitoredStep p system) c σ → Enforced p system c (begins .first-event) σ
 enforced p system c begins w σ t =
-    let f = followed t w in
+    let f = followed t in
     record {
       events = f .events;
-      in-property = λ es h. (endOf c σ .oracles, further (begins .judged-first) (f .reading es h), f .allowed);
+      in-property = λ es h. into-throughout (Reads p) (Allows p) (further (begins .judged-first, w) (f .reading es h));
       of-system = f .of-system;
       ends = f .ends;
     }

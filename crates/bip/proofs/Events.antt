@@ -3,7 +3,7 @@ use mathlib.Core.Path.{_≡_, refl, sym, ap, _∙_, subst}
 use mathlib.Core.Logic.{_↔_, inl, inr}
 use Prim.Native.Nat.{ℕ, _<_}
 use native.Mathlib.Nat.{le-trans}
-use mathlib.Core.Bool.{true, false, not, cond}
+use mathlib.Core.Bool.{true, false, cond}
 use lib.Seq.{ext-getD}
 use lib.Dec.{ltb}
 use lib.IntN.{ℤ, pos}
@@ -11,15 +11,16 @@ use Rattle.semantics.specs.Bytes.{bit, table}
 use Rattle.semantics.specs.Plan.{Plan, components, variables, propositions, startStates, propositionOf, startLocation, startValue}
 use Rattle.semantics.specs.Code.{State, guardHolds}
 use Rattle.semantics.specs.Rules.{planRefusal}
-use Rattle.semantics.specs.Move.{Configuration, letter, nextStates, judged, oraclesInRange, oraclesGood, good, initialState, initial}
+use Rattle.semantics.specs.Move.{Configuration, letter, nextStates, judged, oraclesInRange, reaches, good, tolerable, initialState, initial}
 use Rattle.bip.specs.Steps.{Init}
-use Rattle.bip.specs.Monitor.{Letter, Satisfies, Allows, Forbids, Begins}
-use Rattle.semantics.proofs.Basics.{bool-cases, absurd-bool, not-no, eqb-true, eq-eqb, ltb-true, ltb-false, lt-ltb, length-table, getD-table}
+use Rattle.bip.specs.Monitor.{Letter, Satisfies, Allows, Forbids, Tolerates, Begins}
+use Rattle.semantics.proofs.Basics.{bool-cases, absurd-bool, leb-false, lt-leb, ltb-true, ltb-false, lt-ltb, length-table, getD-table}
 use Rattle.semantics.proofs.Masks.{bit-mask, mask-same, mask-bits}
 use Rattle.semantics.proofs.AcceptedPlan.{accepted-plan, Counts, counts-of}
 use Rattle.semantics.proofs.Sound.{letter-lt, sound-initial}
+use Rattle.semantics.proofs.Oracles.{tolerable-verdict}
 use Rattle.bip.proofs.Components.{state-of}
-use Rattle.bip.proofs.OracleRules.{reads-is, reads-next, verdict-exactly, not-both, allows-or-forbids}
+use Rattle.bip.proofs.OracleRules.{reads-is, reads-next, verdict-exactly, forbidden-exactly, not-both, allows-or-forbids}
 
 -- ---- events
 
@@ -36,11 +37,17 @@ event-once p q e s =
 
 -- ---- verdicts
 
--- 01's bad is the oracles' verdict ⊥
+-- 01's bad, as 02's job 6 has it, is the oracles' verdict ⊥ or ⊥_c
 pub bad-forbids : (p : Plan) (c : Configuration) → good p c ≡ false ↔ Forbids p (c .oracles)
-unfolding good oraclesGood
+unfolding good reaches
 bad-forbids p c =
-    let verdict = verdict-exactly p (c .oracles) 0 in (λ e. verdict .1 (sym (eqb-true _ _ (not-no _ e))), λ f. ap not (eq-eqb _ _ (sym (verdict .0 f))))
+    let forbidden = forbidden-exactly p (c .oracles) in (λ e. forbidden .1 (leb-false 2 _ e), λ f. lt-leb 2 _ (forbidden .0 f))
+
+-- 02, job 6: "its verdict is not 0"
+pub tolerable-exactly : (p : Plan) (c : Configuration) → tolerable p c ≡ true ↔ Tolerates p (c .oracles)
+tolerable-exactly p c =
+    let is = verdict-exactly p (c .oracles) 0 in
+    (λ e h. tolerable-verdict p c .0 e (sym (is .0 h)), λ t. tolerable-verdict p c .1 (λ z. t (is .1 (sym z))))
 
 module _ (p : Plan) (ok : planRefusal p ≡ 0) where
   -- 01's good is the oracles' verdict ⊤ or ⊤_c

@@ -41,11 +41,15 @@ known p b kept =
       marked = λ i l. marks-kept p (configurationOf b) (marksOf b) (g .marks) i (low i l);
     }
 
--- the image of a move holds its configuration
+-- an image holds the configuration that it is written of
+pub written-held : (p : Plan) (c : Configuration) → Sound p c → configurationOf (image p c 0) ≡ c
+written-held p c h = configuration-back p c 0 (shaped p c h)
+
+-- so does that of a move
 pub after-held : (p : Plan) → planRefusal p ≡ 0 → (c : Configuration) → Sound p c → (i : ℕ) → i < interactions p → enabled p (c .state) i ≡ true
     → configurationOf (image p (after p c i) 0) ≡ after p c i
-after-held p ok c sound i l e = configuration-back p (after p c i) 0 (shaped p (after p c i) (sound-after p (accepted-plan p ok) c sound i l e))
+after-held p ok c sound i l e = written-held p (after p c i) (sound-after p (accepted-plan p ok) c sound i l e)
 
 -- the bytes after an answer
-pub leaves : (p : Plan) (b : Image) (k : Call) {a : Answer} → called p b k .answer ≡ a → called p b k .image ≡ bytesAfter p b a
-leaves p b k e = bytes-after p b k ∙ ap (bytesAfter p b) e
+pub leaves : (p : Plan) (b : Image) (k : Call) {a : Answer} → called p b k .answer ≡ a → called p b k .image ≡ bytesAfter p b k a
+leaves p b k e = bytes-after p b k ∙ ap (bytesAfter p b k) e

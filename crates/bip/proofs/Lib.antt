@@ -4,6 +4,7 @@ pub mod Disabling
 pub mod Enforcement
 pub mod Events
 pub mod KnownImage
+pub mod Listing
 pub mod Logs
 pub mod Meet
 pub mod MonitorRules
@@ -18,4 +19,5 @@ pub mod Settling
 pub mod SupervisedSteps
 pub mod SupervisedTraces
 pub mod Traces
+pub mod Transactions
 pub mod Trying

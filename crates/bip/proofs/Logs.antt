@@ -5,10 +5,10 @@ use mathlib.Core.Logic.{_↔_}
 use mathlib.Core.Bool.{true}
 use Rattle.semantics.specs.Plan.{Plan}
 use Rattle.semantics.specs.Rules.{planRules, planRefusal}
-use Rattle.semantics.specs.Move.{Configuration, good, initial}
+use Rattle.semantics.specs.Move.{Configuration, good, initial, replay}
 use Rattle.semantics.specs.Calls.{accepted}
-use Rattle.semantics.specs.Book.{replay}
-use Rattle.semantics.specs.Log.{Log, entries, logRules, checkLog}
+use Rattle.semantics.specs.Bytes.{entries}
+use Rattle.semantics.specs.Log.{Log, logRules, checkLog}
 use Rattle.semantics.proofs.Refusing.{all-kept}
 use Rattle.semantics.proofs.RuleLists.{Kept, kept-append}
 use Rattle.semantics.proofs.AcceptedPlan.{accepted-plan}

@@ -88,7 +88,7 @@ pub monitored-low : {p : Plan} {system : System} {i : ℕ} {c d : Configuration}
 monitored-low moves m = let (_, s) = monitored-steps m in composite-low (moves _ _ _ s .step)
 
 module _ (p : Plan) (ok : planRefusal p ≡ 0) (c : Configuration) (sound : Sound p c) (i : ℕ) (l : i < interactions p) where
-  step-exactly : (q' : State) → Chosen p (c .state) i q' ↔ ((enabled p (c .state) i ≡ true) × (q' ≡ fired p (c .state) i))
+  pub step-exactly : (q' : State) → Chosen p (c .state) i q' ↔ ((enabled p (c .state) i ≡ true) × (q' ≡ fired p (c .state) i))
   step-exactly = chosen-exactly p ok (c .state) (state-of p ok c sound) i l
 
   after-in-range : enabled p (c .state) i ≡ true → oraclesInRange p (after p c i .oracles) ≡ true
@@ -108,12 +108,13 @@ module _ (p : Plan) (ok : planRefusal p ≡ 0) (c : Configuration) (sound : Soun
     move-enabled : move → enabled p (c .state) i ≡ true
     move-enabled s = step-exactly (fired p (c .state) i) .0 (moves (c .state) i (fired p (c .state) i) s) .0
 
-    commits-after : (d : Configuration) → Commits p system i c d → move × (d ≡ after p c i)
+    -- a step of the system whose event the oracles read leads to the engine's configuration
+    pub read-after : (d : Configuration) → system (c .state) i (d .state) → d .oracles ≡ nextStates p (c .oracles) (letter p (d .state)) → move × (d ≡ after p c i)
     unfolding after judged
-    commits-after d m =
-        let s = moved (d .state) (m .moves) in
-        let o : d .oracles ≡ nextStates p (c .oracles) (letter p (fired p (c .state) i)) = m .read ∙ ap (λ (q : State). nextStates p (c .oracles) (letter p q)) s in
-        (subst (system (c .state) i) s (m .moves), λ k. record { state = s k; oracles = o k })
+    read-after d m read =
+        let s = moved (d .state) m in
+        let o : d .oracles ≡ nextStates p (c .oracles) (letter p (fired p (c .state) i)) = read ∙ ap (λ (q : State). nextStates p (c .oracles) (letter p q)) s in
+        (subst (system (c .state) i) s m, λ k. record { state = s k; oracles = o k })
 
     -- 002 definition 16, rule 2: a move of the system commits exactly where it ends good, and it leads to the engine's configuration
     pub commits-exactly : (d : Configuration) → Monitored p system i c (did i) d ↔ (system (c .state) i (fired p (c .state) i) × (good p (after p c i) ≡ true) × (d ≡ after p c i))
@@ -122,7 +123,7 @@ module _ (p : Plan) (ok : planRefusal p ≡ 0) (c : Configuration) (sound : Soun
         to : Monitored p system i c (did i) d → move × (good p (after p c i) ≡ true) × (d ≡ after p c i)
         to m =
             let r = by-rule-2 m refl in
-            let (s, same) = commits-after d r in
+            let (s, same) = read-after d (r .moves) (r .read) in
             let a : Allows p (after p c i .oracles) = subst (λ (x : Configuration). Allows p (x .oracles)) same (r .allowed) in
             (s, good-allows p ok (after p c i) (after-in-range (move-enabled s)) .1 a, same)
 

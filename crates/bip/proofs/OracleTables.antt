@@ -1,5 +1,6 @@
--- Each oracle of an accepted plan, alone: its table denotes a safety property, which is 1-step tolerant (002 section 4, definition 14 and proposition 2).
-use mathlib.Core.Path.{_≡_, refl, sym, ap, _∙_, subst}
+-- Each oracle of an accepted plan, alone: what its verdicts say, and where its table denotes a safety property, which is 1-step tolerant (002 section 4, definition 14
+-- and proposition 2).
+use mathlib.Core.Path.{_≡_, refl, sym, _∙_, subst}
 use mathlib.Core.Logic.{_⊎_, inl, inr}
 use Prim.Native.Nat.{ℕ, zero, suc, _≤_, _<_}
 use native.Mathlib.Nat.{le-trans}
@@ -15,7 +16,7 @@ use Rattle.semantics.specs.Move.{stateInRange, oraclesInRange}
 use Rattle.bip.specs.Steps.{Path}
 use Rattle.bip.specs.Property.{false-for-good, true-for-good, Evaluates, always, never, Safety, Tolerant}
 use Rattle.bip.specs.Monitor.{Letter, ReadsAlone, reads, AllowsAlone, DenotesAlone}
-use Rattle.semantics.proofs.Basics.{each, every-at, implies-at, not-yes, leb-true, eqb-true, eq-eqb, eqb-false}
+use Rattle.semantics.proofs.Basics.{each, every-at, implies-at, leb-true, eqb-true, eq-eqb}
 use Rattle.semantics.proofs.AcceptedPlan.{accepted-plan}
 use Rattle.semantics.proofs.Oracles.{range-at, range-lt, next-in-range, start-in-range}
 use Rattle.bip.proofs.Components.{counted}
@@ -29,18 +30,35 @@ reads-is-alone reads = refl
 pub reads-once-alone : {p : Plan} {n θ θ' θ'' : ℕ} {σ : List (Letter p)} → Path (ReadsAlone p n) θ σ θ' → Path (ReadsAlone p n) θ σ θ'' → θ' ≡ θ''
 reads-once-alone = path-once (λ θ e t u q r. reads-is-alone q ∙ sym (reads-is-alone r))
 
--- 002 definition 14: a verdict that allows is not ⊥.
-not-both-alone : (p : Plan) (n θ : ℕ) → AllowsAlone p n θ → verdict p n θ ≡ 0 → ⊥
-not-both-alone p n θ (inl a) f = let h : verdict p n θ ≡ 3 = a in omega arith
-not-both-alone p n θ (inr a) f = let h : verdict p n θ ≡ 2 = a in omega arith
+-- verdict(θ) ∈ {⊥, ⊥_c}, of oracle n
+abbrev pub ForbidsAlone : Plan → ℕ → ℕ → Type 0
+ForbidsAlone p n θ = (verdict p n θ ≡ 0) ⊎ (verdict p n θ ≡ 1)
 
-lawful-verdict : (v : ℕ) → verdictOk v ≡ true → ((v ≡ 3) ⊎ (v ≡ 2)) ⊎ (v ≡ 0)
+-- 002 definition 14: a verdict that allows is 2 or more,
+allows-2 : (p : Plan) (n θ : ℕ) → AllowsAlone p n θ → 2 ≤ verdict p n θ
+allows-2 p n θ (inl a) = let h : verdict p n θ ≡ 3 = a in omega (arith, h)
+allows-2 p n θ (inr a) = let h : verdict p n θ ≡ 2 = a in omega (arith, h)
+
+-- one that forbids is less,
+pub forbids-2 : (p : Plan) (n θ : ℕ) → ForbidsAlone p n θ → verdict p n θ < 2
+forbids-2 p n θ (inl f) = let h : verdict p n θ ≡ 0 = f in omega (arith, h)
+forbids-2 p n θ (inr f) = let h : verdict p n θ ≡ 1 = f in omega (arith, h)
+
+-- and none does both
+not-both-alone : (p : Plan) (n θ : ℕ) → AllowsAlone p n θ → ForbidsAlone p n θ → ⊥
+not-both-alone p n θ a f = let h = allows-2 p n θ a in let k = forbids-2 p n θ f in omega (arith, h, k)
+
+lawful-verdict : (v : ℕ) → verdictOk v ≡ true → ((v ≡ 3) ⊎ (v ≡ 2)) ⊎ ((v ≡ 0) ⊎ (v ≡ 1))
 unfolding verdictOk
-lawful-verdict zero e = inr refl
-lawful-verdict (suc zero) e = absurd (eqb-false 1 1 (not-yes (eqb 1 1) (each _ e .1 .0)) refl)
+lawful-verdict zero e = inr (inl refl)
+lawful-verdict (suc zero) e = inr (inr refl)
 lawful-verdict (suc (suc zero)) e = inl (inr refl)
 lawful-verdict (suc (suc (suc zero))) e = inl (inl refl)
-lawful-verdict (suc (suc (suc (suc v)))) e = let h : suc (suc (suc (suc v))) ≤ 3 = leb-true _ 3 (each _ e .0) in absurd (omega arith)
+lawful-verdict (suc (suc (suc (suc v)))) e = let h : suc (suc (suc (suc v))) ≤ 3 = leb-true _ 3 e in absurd (omega arith)
+
+-- no state of oracle n has verdict 1, as in every plan before 02, job 6
+abbrev pub NeverOne : Plan → ℕ → Type 0
+NeverOne p n = (θ : ℕ) → stateInRange p n θ ≡ true → verdict p n θ ≡ 1 → ⊥
 
 module _ (p : Plan) (accepted : planRefusal p ≡ 0) (n : ℕ) (used : n < oracles p) where
   -- an oracle of the plan has a place among the four, and its state there is in range where all are
@@ -86,8 +104,8 @@ module _ (p : Plan) (accepted : planRefusal p ≡ 0) (n : ℕ) (used : n < oracl
   unfolding followerOk
   true-stays-alone = verdict-kept 3 (λ θ θ' h. let (_, (_, (k, _))) = each _ h in k)
 
-  -- 01 refusals 9 and 20: "a verdict other than 0, 2, 3". No state is currently false.
-  pub allows-or-forbids-alone : (θ : ℕ) → stateInRange p n θ ≡ true → AllowsAlone p n θ ⊎ (verdict p n θ ≡ 0)
+  -- 01 refusals 9 and 20, as 02, job 6, leaves them: the verdict of each state is one of 𝔹₄.
+  pub allows-or-forbids-alone : (θ : ℕ) → stateInRange p n θ ≡ true → AllowsAlone p n θ ⊎ ForbidsAlone p n θ
   unfolding oracleOk
   allows-or-forbids-alone θ l = lawful-verdict (verdict p n θ) (each _ (lawful θ l) .0)
 
@@ -98,21 +116,26 @@ module _ (p : Plan) (accepted : planRefusal p ≡ 0) (n : ℕ) (used : n < oracl
   reached-in-range r =
       path-keeps (λ θ. stateInRange p n θ ≡ true) reads-in-range r (own-in-range (startStates p) (start-in-range p (accepted-plan p accepted)))
 
-  -- 002 section 4: the property that an oracle of an accepted plan denotes is a safety property.
-  pub denotes-alone-safety : Safety (DenotesAlone p n)
-  denotes-alone-safety σ σ' (u, r, a) =
-      let (t, before, later) = path-split σ σ' r in
-      elim (allows-or-forbids-alone t (reached-in-range before))
-      [ inl b ↦ (t, before, b) | inr f ↦ absurd (not-both-alone p n u a (bad-for-good-alone t u σ' (reached-in-range before) later f)) ]
+  module _ (no-1 : NeverOne p n) where
+    -- 002 section 4: the property that an oracle without verdict 1 denotes is a safety property.
+    pub denotes-alone-safety : Safety (DenotesAlone p n)
+    denotes-alone-safety σ σ' (u, r, a) =
+        let (t, before, later) = path-split σ σ' r in
+        let low = reached-in-range before in
+        elim (allows-or-forbids-alone t low) [
+          | inl b ↦ (t, before, b)
+          | inr (inl f) ↦ absurd (not-both-alone p n u a (inl (bad-for-good-alone t u σ' low later f)))
+          | inr (inr f) ↦ absurd (no-1 t low f)
+        ]
 
-  -- 002 proposition 2, of that property.
-  pub denotes-alone-tolerant : Tolerant 1 (DenotesAlone p n)
-  denotes-alone-tolerant = safety-tolerant (DenotesAlone p n) denotes-alone-safety
+    -- 002 proposition 2, of that property.
+    pub denotes-alone-tolerant : Tolerant 1 (DenotesAlone p n)
+    denotes-alone-tolerant = safety-tolerant (DenotesAlone p n) denotes-alone-safety
 
   -- 002 section 4 and definition 14, for the state that an oracle reaches on σ.
   pub verdict-is-alone : (σ : List (Letter p)) (θ : ℕ) → Path (ReadsAlone p n) (getD (startStates p) n 0) σ θ
       → Judges (DenotesAlone p n) σ (λ v. verdict p n θ ≡ v)
-  verdict-is-alone σ θ r = record { on-3 = on-three; on-0 = on-zero; on-2 = λ v. (θ, r, inr v) }
+  verdict-is-alone σ θ r = record { on-3 = on-three; on-0 = on-zero; on-2 = λ v. (θ, r, inr v); on-1 = λ v. outside (inr v) }
     where
       low : stateInRange p n θ ≡ true
       low = reached-in-range r
@@ -121,11 +144,14 @@ module _ (p : Plan) (accepted : planRefusal p ≡ 0) (n : ℕ) (used : n < oracl
       on-three v =
           always (θ, r, inl v) (λ σ'. let (u, later, _) = oracle-reads θ low σ' in (u, path-join r later, inl (true-stays-alone θ u σ' low later v)))
 
+      outside : ForbidsAlone p n θ → DenotesAlone p n σ → ⊥
+      outside f (u, q, a) = not-both-alone p n u a (subst (ForbidsAlone p n) (reads-once-alone r q) f)
+
       out : verdict p n θ ≡ 0 → (σ' : List (Letter p)) → DenotesAlone p n (σ ++ σ') → ⊥
       out v σ' (u, q, a) =
           let (t, before, later) = path-split σ σ' q in
           let same : θ ≡ t = reads-once-alone r before in
-          not-both-alone p n u a (bad-for-good-alone θ u σ' low (subst (λ (x : ℕ). Path (ReadsAlone p n) x σ' u) (sym same) later) v)
+          not-both-alone p n u a (inl (bad-for-good-alone θ u σ' low (subst (λ (x : ℕ). Path (ReadsAlone p n) x σ' u) (sym same) later) v))
 
       on-zero : verdict p n θ ≡ 0 → Evaluates (DenotesAlone p n) σ false-for-good
-      on-zero v = never (λ (u, q, a). not-both-alone p n u a (ap (verdict p n) (sym (reads-once-alone r q)) ∙ v)) (out v)
+      on-zero v = never (outside (inl v)) (out v)

@@ -2,6 +2,7 @@
 use mathlib.Core.Path.{_≡_, refl, subst}
 use mathlib.Core.List.{List, [], _∷_, _++_}
 use Rattle.bip.specs.Steps.{Path, here, further}
+use Rattle.bip.specs.Property.{Throughout}
 
 module _ {S L : Type 0} {step : S → L → S → Type 0} where
   -- 001 definition 12: a path on σ · σ' is one on σ, then one on σ'.
@@ -38,3 +39,18 @@ pub path-part : {S T L : Type 0} {step : S → L → S → Type 0} {part-step : 
     → ((s : S) (l : L) (t : S) → step s l t → part-step (part s) l (part t)) → {s t : S} {σ : List L} → Path step s σ t → Path part-step (part s) σ (part t)
 path-part part steps here = here
 path-part part steps (further {s} {t} {u} {l} h r) = further (steps s l t h) (path-part part steps r)
+
+module _ {S L : Type 0} (step : S → L → S → Type 0) (P : S → Type 0) where
+  -- steps that each lead to where P holds
+  abbrev pub Into : S → L → S → Type 0
+  Into s l t = step s l t × P t
+
+  into-last : {s u : S} {l : L} {σ : List L} → Path Into s (l ∷ σ) u → P u
+  into-last (further (h, k) here) = k
+  into-last (further h (further k r)) = into-last (further k r)
+
+  -- after every non-empty prefix of a path of such steps P holds
+  pub into-throughout : {s u : S} {σ : List L} → Path Into s σ u → Throughout (λ τ. (t : S) × Path step s τ t × P t) σ
+  into-throughout {s} {u} r a σ rest e =
+      let (t, before, _) = path-split (a ∷ σ) rest (subst (λ (τ : List L). Path Into s τ u) e r) in
+      (t, path-part (λ (x : S). x) (λ x l y k. k .0) before, into-last before)

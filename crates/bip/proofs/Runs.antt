@@ -8,9 +8,9 @@ use mathlib.Core.List.{List, [], _∷_, _++_, append-assoc}
 use Rattle.semantics.specs.Plan.{Plan, interactions, startStates}
 use Rattle.semantics.specs.Code.{State}
 use Rattle.semantics.specs.Rules.{planRefusal}
-use Rattle.semantics.specs.Move.{Configuration, enabled, letter, nextStates, judged, after, good, initial}
+use Rattle.semantics.specs.Move.{Configuration, enabled, letter, nextStates, judged, after, good, initial, replay}
 use Rattle.semantics.specs.Run.{isRun}
-use Rattle.semantics.specs.Book.{replay}
+use Rattle.bip.specs.Property.{Throughout}
 use Rattle.bip.specs.Steps.{Chosen, Path, here, further, Trace, still, onward, endOf}
 use Rattle.bip.specs.Monitor.{Letter, Satisfies, Reads, Allows, Denotes, Label, did, ε, CommitStep, CancelStep, RankedCommit, EngineStep, does, undoes, MonitoredStep, Begins, erased, stutter-free, Shows, shown, interactionsOf, AllowedRun, EngineRun}
 use Rattle.semantics.proofs.Basics.{each, all-of, ltb-true, lt-ltb}
@@ -21,7 +21,6 @@ use Rattle.bip.proofs.Enforcement.{each-step, enforced}
 use Rattle.bip.proofs.Components.{state-of}
 use Rattle.bip.proofs.Composites.{chosen-exactly}
 use Rattle.bip.proofs.Events.{event-once, good-allows, initial-begins, begins-initial}
-use Rattle.bip.proofs.Meet.{denotes-safety}
 use Rattle.bip.proofs.OracleRules.{reads-next, reads-once}
 use Rattle.bip.proofs.Paths.{path-join}
 use Rattle.bip.proofs.MonitorRules.{did-not-ε, chosen-moves, monitored-low, commit-exactly, ranked-commit-exactly}
@@ -159,20 +158,21 @@ module _ (p : Plan) (ok : planRefusal p ≡ 0) where
 
   -- a trace of the system whose events stay in the property is a path of commits
   trace-commits : {s : State} {σ : List (ℕ × State)} → Trace (Chosen p) s σ → (c : Configuration) → Sound p c → c .state ≡ s
-      → (τ es : List (Letter p)) → Path (Reads p) (startStates p) τ (c .oracles) → Shows p σ es → Denotes p (τ ++ es)
+      → (first : Letter p) (τ es : List (Letter p)) → Path (Reads p) (startStates p) (first ∷ τ) (c .oracles) → Shows p σ es → Throughout (Denotes p) (first ∷ (τ ++ es))
       → Path (CommitStep p) c (interactionsOf σ) (replay p c (interactionsOf σ))
   unfolding replay
-  trace-commits still c h e τ es r shows d = here
-  trace-commits (onward {t} {l = i} {σ} m rest) c h e τ events r (shown {e = a} {es} o shows) d =
+  trace-commits still c h e first τ es r shows d = here
+  trace-commits (onward {t} {l = i} {σ} m rest) c h e first τ events r (shown {e = a} {es} o shows) d =
       let s : Same c i a t = same c h i a t (subst (λ (q : State). Chosen p q i t) (sym e) m) o in
       let h' : Sound p (after p c i) = sound-after p (accepted-plan p ok) c h i (s .number<) (s .is-enabled) in
-      let r' : Path (Reads p) (startStates p) (τ ++ (a ∷ [])) (after p c i .oracles) = path-join r (further (s .read-same) here) in
-      let d' : Denotes p ((τ ++ (a ∷ [])) ++ es) = subst (Denotes p) (sym (append-assoc τ (a ∷ []) es)) d in
-      let before = denotes-safety p ok (τ ++ (a ∷ [])) es d' in
+      let r' : Path (Reads p) (startStates p) (first ∷ (τ ++ (a ∷ []))) (after p c i .oracles) = path-join r (further (s .read-same) here) in
+      let d' : Throughout (Denotes p) (first ∷ ((τ ++ (a ∷ [])) ++ es))
+      = subst (λ (ρ : List (Letter p)). Throughout (Denotes p) (first ∷ ρ)) (sym (append-assoc τ (a ∷ []) es)) d in
+      let before = d' first (τ ++ (a ∷ [])) es refl in
       let w : Allows p (after p c i .oracles) = subst (Allows p) (reads-once (before .1) r') (before .2) in
       let g : good p (after p c i) ≡ true = good-allows p ok (after p c i) (h' .in-range) .1 w in
       further (commit-exactly p ok c h i (s .number<) (after p c i) .1 (safe-from p c i (s .is-enabled) g, refl))
-      (trace-commits rest (after p c i) h' (s .state-same) (τ ++ (a ∷ [])) es r' shows d')
+      (trace-commits rest (after p c i) h' (s .state-same) first (τ ++ (a ∷ [])) es r' shows d')
 
   -- 002 corollary 1 and its converse: from a judged beginning that the oracles allow, what the monitor commits are exactly the runs of the system whose events
   -- stay in the property. The engine's runs are those of them in which no interaction above a move has a commit.
@@ -194,6 +194,6 @@ module _ (p : Plan) (ok : planRefusal p ≡ 0) where
           path-replay h r,
         )),
     (λ (a, ends).
-        let r = trace-commits (a .steps) c h refl (begins .first-event ∷ []) (a .events) (further (begins .judged-first) here) (a .shows) (a .in-property) in
+        let r = trace-commits (a .steps) c h refl (begins .first-event) [] (a .events) (further (begins .judged-first) here) (a .shows) (a .in-property) in
         rw ends (subst (λ (js : List ℕ). Path (CommitStep p) c js (replay p c js)) (a .through) r)),
   )

@@ -1,15 +1,19 @@
--- Properties over any alphabet: a safety property is 1-step tolerant, and the meet of safety properties is one (002 section 4, definition 11 and
--- proposition 2).
-use mathlib.Core.Path.{_≡_, refl, sym, ap, _∙_}
+-- Properties over any alphabet: a safety property is 1-step tolerant, what is in a property throughout is one, and so is the meet of safety properties (002 section
+-- 4, definition 11 and proposition 2).
+use mathlib.Core.Path.{_≡_, refl, sym, ap, _∙_, subst}
 use mathlib.Core.Logic.{_↔_}
 use Prim.Native.Nat.{ℕ, _+_, _<_}
 use native.Mathlib.Nat.{le-refl}
 use native.Mathlib.Omega.{arith}
-use mathlib.Core.List.{List, [], _∷_, _++_}
+use mathlib.Core.List.{List, [], _∷_, _++_, append-assoc, append-nil}
 use lib.ListN.{length, length-append}
-use Rattle.bip.specs.Property.{Property, Truth, false-for-good, currently-false, currently-true, true-for-good, Evaluates, always, so-far, not-yet, never, Meet, Safety, Tolerant}
+use Rattle.bip.specs.Property.{Property, Truth, false-for-good, currently-false, currently-true, true-for-good, Evaluates, always, so-far, not-yet, never, Meet, Safety, Throughout, Tolerant}
 
 -- ---- safety and tolerance
+
+-- 002 section 4: a sequence that is currently false is not in the property
+pub currently-out : {E : Type 0} {Π : Property E} {σ : List E} → Evaluates Π σ currently-false → Π σ → ⊥
+currently-out (not-yet out σ' in-later) = out
 
 -- 002 proposition 2, its proof: no sequence is currently false of a safety property.
 pub never-currently-false : {E : Type 0} (Π : Property E) → Safety Π → (σ : List E) → Evaluates Π σ currently-false → ⊥
@@ -19,6 +23,19 @@ never-currently-false Π safe σ (not-yet out σ' in-later) = out (safe σ σ' i
 pub safety-tolerant : {E : Type 0} (Π : Property E) → Safety Π → Tolerant 1 Π
 safety-tolerant Π safe [] σ' now-true deviates = le-refl 1
 safety-tolerant Π safe (a ∷ σ) σ' now-true deviates = absurd (never-currently-false Π safe (σ' ++ (a ∷ [])) (deviates a [] σ refl))
+
+module _ {E : Type 0} (Π : Property E) where
+  -- 002 section 4: what is in a property throughout is a safety property, whatever the property is,
+  pub throughout-safety : Safety (Throughout Π)
+  throughout-safety σ σ' h a σₚ rest e = h a σₚ (rest ++ σ') (ap (λ (τ : List E). τ ++ σ') e ∙ append-assoc (a ∷ σₚ) rest σ')
+
+  -- so it is 1-step tolerant (002 proposition 2): a monitor that can go back one step enforces it,
+  pub throughout-tolerant : Tolerant 1 (Throughout Π)
+  throughout-tolerant = safety-tolerant (Throughout Π) throughout-safety
+
+  -- and of a safety property it is the property itself, but for the empty sequence.
+  pub throughout-same : Safety Π → (a : E) (σ : List E) → Throughout Π (a ∷ σ) ↔ Π (a ∷ σ)
+  throughout-same safe a σ = ((λ h. h a σ [] (sym (append-nil (a ∷ σ)))), (λ h b σₚ rest e. safe (b ∷ σₚ) rest (subst Π e h)))
 
 -- 002 proposition 2 prints an equality. The other inclusion does not follow from definition 11 as printed: "exactly one event" is 1-step tolerant,
 abbrev pub OneEvent : (E : Type 0) → Property E
@@ -90,9 +107,10 @@ module _ {E : Type 0} (k : ℕ) (Π : ℕ → Property E) where
 
 -- ---- verdicts
 
--- What an oracle's verdict says of the σ that it has read, with Π the property that it denotes: 3 is ⊤ and 0 is ⊥. 2 says only that σ is in the property:
--- a table may give 2 where every continuation stays good.
+-- What an oracle's verdict says of the σ that it has read, with Π the property that it denotes: 3 is ⊤ and 0 is ⊥. 2 says only that σ is in the property, and 1 only
+-- that it is not: a table may give 2 where every continuation stays good, and 1 where none becomes good.
 pub record Judges {E : Type 0} (Π : Property E) (σ : List E) (verdict : ℕ → Type 0) : Type 0 where
   pub on-3 : verdict 3 → Evaluates Π σ true-for-good
   pub on-0 : verdict 0 → Evaluates Π σ false-for-good
   pub on-2 : verdict 2 → Π σ
+  pub on-1 : verdict 1 → Π σ → ⊥

@@ -2,3 +2,4 @@ pub mod Disabler
 pub mod Monitor
 pub mod Property
 pub mod Steps
+pub mod Transaction

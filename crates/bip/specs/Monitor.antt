@@ -11,7 +11,7 @@ use Rattle.semantics.specs.Plan.{Plan, maxOracles, propositions, oracles, start
 use Rattle.semantics.specs.Code.{State, guardHolds}
 use Rattle.semantics.specs.Move.{Configuration}
 use Rattle.bip.specs.Steps.{Below, Chosen, Ranked, Init, Path, Trace, endOf}
-use Rattle.bip.specs.Property.{Property}
+use Rattle.bip.specs.Property.{Property, Throughout}
 
 -- ---- events: 000 section 4.3
 
@@ -55,9 +55,14 @@ pub record Verdict (p : Plan) (θ : List ℕ) (v : ℕ) : Type 0 where
 abbrev pub Allows : Plan → List ℕ → Type 0
 Allows p θ = Verdict p θ 3 ⊎ Verdict p θ 2
 
--- verdict(θ) = ⊥, 01's 0.
+-- verdict(θ) ∈ {⊥, ⊥_c}, 01's 0 and, from 02, job 6, on, 1. 002 prints ⊥ alone, since no verdict of a safety property is ⊥_c; a monitor that can go back one step
+-- takes both back.
 abbrev pub Forbids : Plan → List ℕ → Type 0
-Forbids p θ = Verdict p θ 0
+Forbids p θ = Verdict p θ 0 ⊎ Verdict p θ 1
+
+-- verdict(θ) ≠ ⊥: what a monitor that can go back several steps lets stand for a while (002 definition 11).
+abbrev pub Tolerates : Plan → List ℕ → Type 0
+Tolerates p θ = Verdict p θ 0 → ⊥
 
 -- The property that the oracles denote together.
 abbrev pub Denotes : (p : Plan) → Property (Letter p)
@@ -172,14 +177,14 @@ interactionsOf {S} σ = map (λ (m : ℕ × S). m .0) σ
 pub record Enforced (p : Plan) (system : System) (c : Configuration) (first : Letter p) (σ : List (Label × Configuration)) : Type 0 where
   -- σ has its events,
   pub events : (es : List (Letter p)) × Shows p (stutter-free (erased σ)) es
-  -- inst(σ) ∈ Π, the starting event first (01; 002 begins with the first move's),
-  pub in-property : (es : List (Letter p)) → Shows p (stutter-free (erased σ)) es → Denotes p (first ∷ es)
+  -- inst(σ) ∈ Π, the starting event first (01; 002 begins with the first move's), and so is each part of it that begins there: 002 has that of a safety property,
+  pub in-property : (es : List (Letter p)) → Shows p (stutter-free (erased σ)) es → Throughout (Denotes p) (first ∷ es)
   -- stutter-free(σ↓) ∈ traces(L),
   pub of-system : Trace system (c .state) (stutter-free (erased σ))
   -- and it ends where σ does.
   pub ends : endOf (c .state) (stutter-free (erased σ)) ≡ endOf c σ .state
 
--- A run of the system through the interactions is, from q to q', whose events, with the first before them, are in the property (001 definition 12, 002
+-- A run of the system through the interactions is, from q to q', whose events, with the first before them, are in the property throughout (001 definition 12, 002
 -- corollary 1).
 pub record AllowedRun (p : Plan) (system : System) (q : State) (first : Letter p) (is : List ℕ) (q' : State) : Type 0 where
   pub trace : List (ℕ × State)
@@ -188,7 +193,7 @@ pub record AllowedRun (p : Plan) (system : System) (q : State) (first : Letter p
   pub ends : endOf q trace ≡ q'
   pub events : List (Letter p)
   pub shows : Shows p trace events
-  pub in-property : Denotes p (first ∷ events)
+  pub in-property : Throughout (Denotes p) (first ∷ events)
 
 -- A run of the engine: from a judged beginning, commits under the priority rule over commits, to the configuration c'.
 pub record EngineRun (p : Plan) (is : List ℕ) (c' : Configuration) : Type 0 where

@@ -1,7 +1,7 @@
 -- Properties over events and how a sequence of events stands to one: 002 section 4 and definition 11. Σ is any alphabet E.
 use mathlib.Core.Path.{_≡_}
 use Prim.Native.Nat.{ℕ, _<_}
-use mathlib.Core.List.{List, [], _∷_, _++_}
+use mathlib.Core.List.{List, _∷_, _++_}
 use lib.ListN.{length}
 
 -- 002 section 4: a property Π over Σ is a subset of Σ*.
@@ -29,6 +29,10 @@ Meet k Π σ = (n : ℕ) → n < k → Π n σ
 -- 002 section 4: "Safety properties are the prefix closed subsets of Σ*."
 abbrev pub Safety : {E : Type 0} → Property E → Type 0
 Safety {E} Π = (σ σ' : List E) → Π (σ ++ σ') → Π σ
+
+-- What is in Π throughout: every non-empty prefix is.
+abbrev pub Throughout : {E : Type 0} → Property E → Property E
+Throughout {E} Π σ = (a : E) (σₚ rest : List E) → σ ≡ (a ∷ σₚ) ++ rest → Π (a ∷ σₚ)
 
 -- 002 definition 11, condition (2): every non-empty prefix of σ, behind σ', is currently false.
 abbrev pub Deviates : {E : Type 0} → Property E → List E → List E → Type 0

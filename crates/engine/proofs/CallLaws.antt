@@ -1,5 +1,5 @@
 -- What each call answers and leaves, from the refusal of plan and image and the tests that come after it.
-use mathlib.Core.Path.{_≡_, refl, sym, ap, _∙_}
+use mathlib.Core.Path.{_≡_, sym, ap, _∙_}
 use Prim.Native.Nat.{ℕ, _^_, _≤_, _<_}
 use mathlib.Core.Bool.{true, false, not, _&&_}
 use mathlib.Core.List.{_++_}
@@ -10,13 +10,14 @@ use Rattle.semantics.specs.Plan.{Plan, maxInteractions, interactions, below}
 use Rattle.semantics.specs.Refusal.{unless, refusal}
 use Rattle.semantics.specs.Rules.{planRules}
 use Rattle.semantics.specs.Move.{enabled, outranked, after, good, safeMove}
-use Rattle.semantics.specs.Image.{Image, image, withMarks, marksOf, configurationOf, lengthRule, imageRules}
-use Rattle.semantics.specs.Calls.{Answer, offers, committed, cancelled, stalled, penned, refused, Outcome, outcome, unlessRefused, clerkRules, offeredMask, tried, settled, Call, offered, try, settle, callRules, performed, called}
+use Rattle.semantics.specs.Image.{Image, image, withMarks, marksOf, configurationOf, imageRules}
+use Rattle.semantics.specs.Calls.{Answer, offers, committed, cancelled, stalled, penned, refused, Outcome, outcome, unlessRefused, clerkRules, offeredMask, tried, settled, Call, offered, try, settle, list, callRules, performed, called}
+use Rattle.semantics.specs.Load.{listRules}
 use Rattle.semantics.proofs.Basics.{bool-cases, absurd-bool, and-both, both-and, lt-ltb, le-ltb, eq-eqb, ne-eqb}
 use Rattle.semantics.proofs.Masks.{bit-mask, mask-lt, mask-holds}
-use Rattle.semantics.proofs.Refusing.{numbered, none-refused, refusal-after, refused-first}
+use Rattle.semantics.proofs.Refusing.{refused-first}
 use Rattle.semantics.proofs.AcceptedPlan.{accepted-plan, counts-of}
-use Rattle.semantics.proofs.LawfulImage.{LawfulImage, lawful-image, marks-kept}
+use Rattle.semantics.proofs.LawfulImage.{LawfulImage, lawful-image, marks-kept, later-rules}
 use Rattle.semantics.proofs.Ranking.{outranked-in}
 use Rattle.words.proofs.BitLaws.{any-bit}
 use Rattle.ranks.specs.Standing.{standing}
@@ -28,18 +29,16 @@ pub parts : {o : Outcome} {a : Answer} {x : Image} → o ≡ outcome a x → (a 
 parts e = (sym (ap (λ (o : Outcome). o .answer) e), sym (ap (λ (o : Outcome). o .image) e))
 
 module _ (p : Plan) (b : Image) where
+  refused-as : (o : Outcome) {m : ℕ} (n : ℕ) → m ≡ n → (n ≡ 0 → ⊥) → unlessRefused m b o ≡ outcome (refused n) b
+  refused-as o n e z = ap (λ (m : ℕ). unlessRefused m b o) e ∙ unless-refused-some n b o z
+
   -- a refusal of plan or image is every call's
   pub called-refused : (k : Call) (n : ℕ) → refusal (planRules p ++ imageRules p b) ≡ n → (n ≡ 0 → ⊥) → called p b k ≡ outcome (refused n) b
   unfolding called callRules
-  called-refused offered n e z = ap (λ (m : ℕ). unlessRefused m b (performed p b offered)) e ∙ unless-refused-some n b (performed p b offered) z
-  called-refused (try i) n e z =
-      ap (λ (m : ℕ). unlessRefused m b (performed p b (try i))) (refused-first (planRules p ++ imageRules p b) (clerkRules p b i) n e z)
-      ∙ unless-refused-some n b (performed p b (try i)) z
-  called-refused settle n e z = ap (λ (m : ℕ). unlessRefused m b (performed p b settle)) e ∙ unless-refused-some n b (performed p b settle) z
-
-  first-numbered : numbered (planRules p ++ imageRules p b) ≡ true
-  unfolding numbered planRules imageRules lengthRule
-  first-numbered = refl
+  called-refused offered n e z = refused-as (performed p b offered) n e z
+  called-refused (try i) n e z = refused-as (performed p b (try i)) n (refused-first (planRules p ++ imageRules p b) (clerkRules p b i) n e z) z
+  called-refused settle n e z = refused-as (performed p b settle) n e z
+  called-refused (list l) n e z = refused-as (performed p b (list l)) n (refused-first (planRules p ++ imageRules p b) (listRules l) n e z) z
 
   module _ (e : refusal (planRules p ++ imageRules p b) ≡ 0) where
     lawful : LawfulImage p b
@@ -60,9 +59,7 @@ module _ (p : Plan) (b : Image) where
 
     called-try : (i n : ℕ) → refusal (clerkRules p b i) ≡ n → called p b (try i) ≡ unlessRefused n b (tried p b i)
     unfolding called callRules performed
-    called-try i n q =
-        ap (λ (m : ℕ). unlessRefused m b (tried p b i))
-        (refusal-after (planRules p ++ imageRules p b) (clerkRules p b i) (none-refused (planRules p ++ imageRules p b) first-numbered e) ∙ q)
+    called-try i n q = ap (λ (m : ℕ). unlessRefused m b (tried p b i)) (later-rules p b e (clerkRules p b i) ∙ q)
 
     pub try-outside : (i : ℕ) → interactions p ≤ i → called p b (try i) ≡ outcome (refused 16) b
     unfolding clerkRules refusal unless unlessRefused

@@ -8,7 +8,7 @@ use Rattle.semantics.specs.Plan.{Plan, interactions, below}
 use Rattle.semantics.specs.Code.{State}
 use Rattle.semantics.specs.Refusal.{refusal}
 use Rattle.semantics.specs.Rules.{planRules}
-use Rattle.semantics.specs.Move.{Configuration, enabled, outranked, after, oraclesInRange, oraclesGood, good, safeMove}
+use Rattle.semantics.specs.Move.{Configuration, enabled, outranked, after, oraclesInRange, reaches, good, safeMove}
 use Rattle.semantics.specs.Image.{Image, image, withMarks, marksOf, configurationOf, imageRules}
 use Rattle.semantics.specs.Calls.{offers, committed, cancelled, stalled, penned, refused, outcome, Call, offered, try, settle, called}
 use Rattle.semantics.proofs.Masks.{bit-mask}
@@ -44,7 +44,7 @@ module _ {p : Plan} {b : Image} {run : Run} {x : Reading} (w : Read p b run x) w
   ends-refused c z = called-refused p b c (x .refusal) (sym (w .refusal-is)) z
 
   module _ (z : x .refusal ≡ 0) where
-    none : refusal (planRules p ++ imageRules p b) ≡ 0
+    pub none : refusal (planRules p ++ imageRules p b) ≡ 0
     none = sym (w .refusal-is) ∙ z
 
     pub lawful : LawfulImage p b
@@ -53,7 +53,7 @@ module _ {p : Plan} {b : Image} {run : Run} {x : Reading} (w : Read p b run x) w
     held : ImageHolds b (configurationIn run) (run .marks)
     held = loaded-held b run (w .run-is)
 
-    lane-is : configurationIn run ≡ configurationOf b
+    pub lane-is : configurationIn run ≡ configurationOf b
     lane-is = held .configuration-is
 
     state-is : stateOf run ≡ configurationOf b .state
@@ -139,16 +139,16 @@ module _ {p : Plan} {b : Image} {run : Run} {x : Reading} (w : Read p b run x) w
               moved : d ≡ after p (configurationOf b) i
               moved = e ∙ ap (λ (c : Configuration). after p c i) lane-is
 
-              good-is : oraclesGood p (d .oracles) ≡ good p (after p (configurationOf b) i)
+              good-is : reaches p 2 (d .oracles) ≡ good p (after p (configurationOf b) i)
               unfolding good
-              good-is = ap (λ (c : Configuration). oraclesGood p (c .oracles)) moved
+              good-is = ap (λ (c : Configuration). reaches p 2 (c .oracles)) moved
 
-              pub ends-committed : oraclesGood p (d .oracles) ≡ true → called p b (try i) ≡ outcome (committed i) (image p d 0)
+              pub ends-committed : reaches p 2 (d .oracles) ≡ true → called p b (try i) ≡ outcome (committed i) (image p d 0)
               ends-committed g =
                   try-committed p b none i l (sym enabled-bit ∙ n) (sym over-is ∙ q) (sym mark-bit ∙ m) (sym good-is ∙ g)
                   ∙ ap (λ (c : Configuration). outcome (committed i) (image p c 0)) (sym moved)
 
-              pub ends-cancelled : oraclesGood p (d .oracles) ≡ false → called p b (try i) ≡ outcome (cancelled i) (withMarks b (withBit (run .marks) i))
+              pub ends-cancelled : reaches p 2 (d .oracles) ≡ false → called p b (try i) ≡ outcome (cancelled i) (withMarks b (withBit (run .marks) i))
               ends-cancelled g =
                   try-cancelled p b none i l (sym enabled-bit ∙ n) (sym over-is ∙ q) (sym mark-bit ∙ m) (sym good-is ∙ g)
                   ∙ ap (λ (v : ℕ). outcome (cancelled i) (withMarks b (withBit v i))) (sym marks-are)

@@ -80,7 +80,7 @@ fn marks_ok<'a>(
     if !among::none_above(plan, marks, free) {
         return false;
     }
-    search::all_bad(plan, locations, ports, values, oracles, chosen, marks)
+    search::none_reaches(plan, locations, ports, values, oracles, chosen, marks, 2)
 }
 
 // Reads plan and image, which has its length: `checked` is what the plan's check said, the parts lent are those of the image's run record, and the table of

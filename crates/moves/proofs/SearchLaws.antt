@@ -1,5 +1,5 @@
--- A state in lent arrays, and the oracles' beside it: whether the configuration is good, and that the arrays are of a state's size. A move that is dominated, by
--- the mask of the enabled ones above it.
+-- A state in lent arrays, and the oracles' beside it: whether the configuration is good, and that the arrays are of a state's size. A move that lies below one that
+-- leads to a verdict, by the mask of the enabled ones above it.
 use mathlib.Core.Path.{_≡_, refl, sym, ap, _∙_}
 use Prim.Native.Nat.{ℕ, _≤_, _<_}
 use native.Mathlib.Nat.{le-trans}
@@ -8,18 +8,18 @@ use mathlib.Core.List.{List}
 use lib.ListN.{length}
 use lib.IntN.{ℤ}
 use Rattle.semantics.specs.Bytes.{implies, every, bit, mask}
-use Rattle.semantics.specs.Plan.{Plan, interactions, below}
-use Rattle.semantics.specs.Move.{Configuration, enabled, after, oraclesGood, good, dominated}
+use Rattle.semantics.specs.Plan.{Plan, interactions, rankRow, below}
+use Rattle.semantics.specs.Move.{Configuration, enabled, after, reaches, good, leadsAbove}
 use Rattle.semantics.specs.Code.{State, site}
 use Rattle.semantics.proofs.Basics.{bool-cases, absurd-bool, same-test, not-yes, and-both, both-and, implies-yes, every-all, every-fails}
-use Rattle.semantics.proofs.Masks.{bit-mask, mask-holds}
-use Rattle.semantics.proofs.Ranking.{dominated-exactly}
+use Rattle.semantics.proofs.Masks.{bit-zero, bit-mask, mask-holds}
+use Rattle.semantics.proofs.Ranking.{leads-above-exactly}
 use Rattle.lane.specs.Runs.{Sized}
 
 -- a configuration is good by the states of its oracles
-pub ends-good : (p : Plan) (c d : Configuration) → c ≡ d → oraclesGood p (c .oracles) ≡ good p d
+pub ends-good : (p : Plan) (c d : Configuration) → c ≡ d → reaches p 2 (c .oracles) ≡ good p d
 unfolding good
-ends-good p c d e = ap (λ (x : Configuration). oraclesGood p (x .oracles)) e
+ends-good p c d e = ap (λ (x : Configuration). reaches p 2 (x .oracles)) e
 
 -- arrays that hold the same state are of the same size
 pub sized-same : (l q : List ℕ) (v : List ℤ) (s : State) → site l q v ≡ s → Sized (s .locations) (s .lastPorts) (s .values) → Sized l q v
@@ -30,8 +30,14 @@ sized-same l q v s e h =
       values-long = ap (λ (x : State). length (x .values)) e ∙ h .values-long;
     }
 
--- the enabled ones above a move, as a mask: it is dominated when not each of them ends bad
-module _ (p : Plan) (c : Configuration) (i m : ℕ) (is : m ≡ mask (interactions p) (λ j. below p i j && enabled p (c .state) j)) where
+-- the row of the ranks is 0: no move that leads to a verdict lies above
+pub none-above : (p : Plan) (v : ℕ) (c : Configuration) (i : ℕ) → rankRow p i ≡ 0 → false ≡ leadsAbove p v c i
+unfolding below
+none-above p v c i e =
+    bool-cases (leadsAbove p v c i) (λ t. let (j, _, b, _, _) = leads-above-exactly p v c i .0 t in absurd-bool b (ap (λ (x : ℕ). bit x j) e ∙ bit-zero j)) sym
+
+-- the enabled ones above a move, as a mask: one of them leads to the verdict when not each of them does not
+module _ (p : Plan) (v : ℕ) (c : Configuration) (i m : ℕ) (is : m ≡ mask (interactions p) (λ j. below p i j && enabled p (c .state) j)) where
   -- a bit of the mask is such a move
   pub above-held : (j : ℕ) → bit m j ≡ true → (j < interactions p) × (below p i j ≡ true) × (enabled p (c .state) j ≡ true)
   above-held j e =
@@ -39,20 +45,20 @@ module _ (p : Plan) (c : Configuration) (i m : ℕ) (is : m ≡ mask (interactio
       let (b, on) = and-both (below p i j) (enabled p (c .state) j) t in
       (l, b, on)
 
-  pub dominated-above : interactions p ≤ 64 → not (every 64 (λ j. implies (bit m j) (not (good p (after p c j))))) ≡ dominated p c i
-  dominated-above few =
+  pub above-leads : interactions p ≤ 64 → not (every 64 (λ j. implies (bit m j) (not (reaches p v (after p c j .oracles))))) ≡ leadsAbove p v c i
+  above-leads few =
       same-test _ _
-      (λ q. bool-cases (dominated p c i) (λ d. d) (λ d. absurd-bool (every-all 64 _ (λ j l. implies-yes (bit m j) _ (bad d j))) (not-yes _ q)))
-      (λ d. let (j, l, b, on, g) = dominated-exactly p c i .0 d in ap not (every-fails 64 _ j (le-trans l few) (fails j l b on g)))
+      (λ q. bool-cases (leadsAbove p v c i) (λ d. d) (λ d. absurd-bool (every-all 64 _ (λ j l. implies-yes (bit m j) _ (short d j))) (not-yes _ q)))
+      (λ d. let (j, l, b, on, r) = leads-above-exactly p v c i .0 d in ap not (every-fails 64 _ j (le-trans l few) (fails j l b on r)))
     where
-      bad : dominated p c i ≡ false → (j : ℕ) → bit m j ≡ true → not (good p (after p c j)) ≡ true
-      bad d j e =
+      short : leadsAbove p v c i ≡ false → (j : ℕ) → bit m j ≡ true → not (reaches p v (after p c j .oracles)) ≡ true
+      short d j e =
           let (l, b, on) = above-held j e in
-          bool-cases (good p (after p c j)) (λ g. absurd-bool (dominated-exactly p c i .1 (j, l, b, on, g)) d) (ap not)
+          bool-cases (reaches p v (after p c j .oracles)) (λ r. absurd-bool (leads-above-exactly p v c i .1 (j, l, b, on, r)) d) (ap not)
 
       held : (j : ℕ) → j < interactions p → below p i j ≡ true → enabled p (c .state) j ≡ true → bit m j ≡ true
       held j l b on = ap (λ (x : ℕ). bit x j) is ∙ bit-mask (interactions p) (λ k. below p i k && enabled p (c .state) k) j l ∙ both-and b on
 
-      fails : (j : ℕ) → j < interactions p → below p i j ≡ true → enabled p (c .state) j ≡ true → good p (after p c j) ≡ true
-          → implies (bit m j) (not (good p (after p c j))) ≡ false
-      fails j l b on g = unfold implies in (rw (held j l b on, g) refl)
+      fails : (j : ℕ) → j < interactions p → below p i j ≡ true → enabled p (c .state) j ≡ true → reaches p v (after p c j .oracles) ≡ true
+          → implies (bit m j) (not (reaches p v (after p c j .oracles))) ≡ false
+      fails j l b on r = unfold implies in (rw (held j l b on, r) refl)

@@ -1,4 +1,5 @@
-// One move: transfer, actions, destinations and last ports (fire), its event and the oracles, and the start judged (judge); which moves of a mask end good, whether a good one lies above a move, and the move that settling commits (search).
+// One move: transfer, actions, destinations and last ports (fire), its event and the oracles, and the start judged (judge); whether moves of a mask, or above a move, end
+// with a verdict or a better one, and the move that settling commits (search).
 pub mod fire;
 pub mod judge;
 pub mod search;

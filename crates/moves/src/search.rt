@@ -1,4 +1,4 @@
-// Which moves of a mask end good, and the move that settling commits.
+// Whether a move of a mask leads to a verdict, and the move that settling commits.
 use crate::judge;
 use choices::masks;
 use layout::header::interactions;
@@ -15,13 +15,13 @@ ghost use Rattle.semantics.specs.Bytes.{every, implies, bit};
 ghost use Rattle.semantics.specs.Plan.{maxInteractions, interactions};
 ghost use Rattle.semantics.specs.Code.{site};
 ghost use Rattle.semantics.specs.Rules.{planRefusal};
-ghost use Rattle.semantics.specs.Move.{enabled, after, oraclesInRange, good, dominated, safeMove};
+ghost use Rattle.semantics.specs.Move.{enabled, after, oraclesInRange, reaches, good, leadsAbove, safeMove};
 ghost use Rattle.choices.specs.Choices.{chosenTable};
 ghost use Rattle.lane.specs.Runs.{lent, Sized};
 ghost use Rattle.moves.specs.Seeking.{AfterGood, AfterBad};
 
-// Whether each move of the mask ends bad, each of which is enabled; the table of choices is that of the state.
-pub fn all_bad<'a>(
+// Whether no move of the mask leads to a verdict of v or more, each of which is enabled; the table of choices is that of the state.
+pub fn none_reaches<'a>(
     plan: &[u8],
     locations: &'a [u8; 16],
     ports: &'a [u8; 16],
@@ -29,12 +29,13 @@ pub fn all_bad<'a>(
     oracles: [u8; 4],
     chosen: &[u16; 256],
     moves: u64,
+    v: u8,
 ) -> bool
     requires { ⌜ planRefusal (now plan) ≡ 0 ⌝ }
     requires { ⌜ (now chosen ≡ chosenTable (now plan) (site (now locations) (now ports) (now values))) × (oraclesInRange (now plan) oracles ≡ true) ⌝ }
     requires { ⌜ Sized (now locations) (now ports) (now values) ⌝ }
     requires { ⌜ ((j : ℕ) → bit moves j ≡ true → (j < interactions (now plan)) × (enabled (now plan) (site (now locations) (now ports) (now values)) j ≡ true)) ⌝ }
-    ensures { λ r. ⌜ r ≡ every maxInteractions (λ j. implies (bit moves j) (not (good (now (plan .entry)) (after (now (plan .entry)) (lent (now (locations .entry)) (now (ports .entry)) (now (values .entry)) oracles) j)))) ⌝ }
+    ensures { λ r. ⌜ r ≡ every maxInteractions (λ j. implies (bit moves j) (not (reaches (now (plan .entry)) v (after (now (plan .entry)) (lent (now (locations .entry)) (now (ports .entry)) (now (values .entry)) oracles) j .oracles)))) ⌝ }
 {
     let mut left = moves;
     while left != 0 {
@@ -52,7 +53,7 @@ pub fn all_bad<'a>(
             chosen,
             n,
         );
-        if row::good(plan, q) {
+        if row::reaches(plan, q, v) {
             return false;
         }
         left = rest;
@@ -60,8 +61,9 @@ pub fn all_bad<'a>(
     true
 }
 
-// Whether an enabled move that ends good lies above interaction i; the table of choices is that of the state. Each enabled one above is made at most once.
-pub fn is_dominated<'a>(
+// Whether an enabled move that leads to a verdict of v or more lies above interaction i; the table of choices is that of the state. Each enabled one above is made
+// at most once.
+pub fn leads_above<'a>(
     plan: &[u8],
     locations: &'a [u8; 16],
     ports: &'a [u8; 16],
@@ -69,15 +71,16 @@ pub fn is_dominated<'a>(
     oracles: [u8; 4],
     chosen: &[u16; 256],
     i: usize,
+    v: u8,
 ) -> bool
     requires { ⌜ planRefusal (now plan) ≡ 0 ⌝ }
     requires { ⌜ (i < interactions (now plan)) × (now chosen ≡ chosenTable (now plan) (site (now locations) (now ports) (now values))) × (oraclesInRange (now plan) oracles ≡ true) ⌝ }
     requires { ⌜ Sized (now locations) (now ports) (now values) ⌝ }
-    ensures { λ r. ⌜ r ≡ dominated (now (plan .entry)) (lent (now (locations .entry)) (now (ports .entry)) (now (values .entry)) oracles) i ⌝ }
+    ensures { λ r. ⌜ r ≡ leadsAbove (now (plan .entry)) v (lent (now (locations .entry)) (now (ports .entry)) (now (values .entry)) oracles) i ⌝ }
 {
     let row = records::rank_row(plan, i);
     let above = masks::enabled_among(plan, locations, ports, values, chosen, row);
-    !all_bad(plan, locations, ports, values, oracles, chosen, above)
+    !none_reaches(plan, locations, ports, values, oracles, chosen, above, v)
 }
 
 // What settling still seeks: the moves not known to be bad, those of them that may yet be the one, the steps of the climb that are still to be judged, and the lowest

@@ -7,11 +7,11 @@ use layout::records::row_at;
 use words::bytes::wide;
 ghost use mathlib.Core.Path.{_≡_};
 ghost use mathlib.Core.Bool.{true};
-ghost use Prim.Native.Nat.{_<_};
+ghost use Prim.Native.Nat.{min, _<_};
 ghost use lib.ListN.{getD};
-ghost use Rattle.semantics.specs.Plan.{maxOracles, oracleStates, statesBefore, letters, oracleAt, verdict, next};
+ghost use Rattle.semantics.specs.Plan.{maxOracles, addedOracles, oracleStates, statesBefore, letters, oracleAt, verdict, next};
 ghost use Rattle.semantics.specs.Rules.{planRefusal};
-ghost use Rattle.semantics.specs.Move.{nextStates, stateInRange, oraclesInRange, oraclesGood};
+ghost use Rattle.semantics.specs.Move.{nextStates, stateInRange, oraclesInRange, lowestVerdict, reaches};
 ghost use Rattle.layout.specs.Laid.{Laid};
 
 // The verdict of state q of oracle n, whose row is at a place.
@@ -61,24 +61,52 @@ pub fn in_range(plan: &[u8], states: [u8; 4]) -> bool
     known(plan, 1, states[1]) & known(plan, 2, states[2]) & known(plan, 3, states[3])
 }
 
-// Whether the states are good: the lowest verdict is not 0, so none is.
-pub fn good(plan: &[u8], states: [u8; 4]) -> bool
+// The lower of two verdicts.
+fn lower(a: u8, b: u8) -> u8
+    ensures { λ r. ⌜ r ≡ min a b ⌝ }
+{
+    if b < a {
+        return b;
+    }
+    a
+}
+
+// The lowest of the states' verdicts: the first oracle's, then those of the added ones.
+fn lowest(plan: &[u8], states: [u8; 4]) -> u8
     requires { ⌜ planRefusal (now plan) ≡ 0 ⌝ }
     requires { ⌜ oraclesInRange (now plan) states ≡ true ⌝ }
-    ensures { λ r. ⌜ r ≡ oraclesGood (now (plan .entry)) states ⌝ }
+    ensures { λ r. ⌜ r ≡ lowestVerdict (now (plan .entry)) states (addedOracles (now (plan .entry))) ⌝ }
 {
     let count = oracles(plan);
-    let mut first = 0;
-    let mut n = 0;
+    let q = wide(states[0]);
+    let mut out = verdict_in(plan, row_of(plan, 0, 0, q), 0, q);
+    let mut first = oracle_states(plan, 0);
+    let mut n = 1;
     while n < count {
         let q = wide(states[n]);
-        if verdict_in(plan, row_of(plan, n, first, q), n, q) == 0 {
-            return false;
-        }
+        out = lower(out, verdict_in(plan, row_of(plan, n, first, q), n, q));
         first += oracle_states(plan, n);
         n += 1;
     }
-    true
+    out
+}
+
+// Whether the states' verdict is v or more.
+pub fn reaches(plan: &[u8], states: [u8; 4], v: u8) -> bool
+    requires { ⌜ planRefusal (now plan) ≡ 0 ⌝ }
+    requires { ⌜ oraclesInRange (now plan) states ≡ true ⌝ }
+    ensures { λ r. ⌜ r ≡ reaches (now (plan .entry)) v states ⌝ }
+{
+    lowest(plan, states) >= v
+}
+
+// Whether the states are good: their verdict is 2 or 3.
+pub fn good(plan: &[u8], states: [u8; 4]) -> bool
+    requires { ⌜ planRefusal (now plan) ≡ 0 ⌝ }
+    requires { ⌜ oraclesInRange (now plan) states ≡ true ⌝ }
+    ensures { λ r. ⌜ r ≡ reaches (now (plan .entry)) 2 states ⌝ }
+{
+    reaches(plan, states, 2)
 }
 
 // The states when each oracle has read letter a.

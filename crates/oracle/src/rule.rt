@@ -14,14 +14,14 @@ ghost use Rattle.semantics.specs.Plan.{maxOracles, addedOracles, oracleStates, 
 ghost use Rattle.semantics.specs.Rules.{verdictOk, followerOk, oracleOk, tableOk};
 ghost use Rattle.layout.specs.Laid.{Laid};
 
-// 0, 2 or 3
+// 0 to 3
 fn verdict_ok(v: u8) -> bool
     ensures { λ r. ⌜ r ≡ verdictOk v ⌝ }
 {
-    (v <= 3) & (v != 1)
+    v <= 3
 }
 
-// 9, for a next state of q, whose verdict is v: oracle n, of so many states, has it, it is bad where q is, and 3 where q is 3.
+// 9, for a next state of q, whose verdict is v: oracle n, of so many states, has it, it is 0 where q is, and 3 where q is 3.
 fn follower_ok(
     plan: &[u8],
     n: usize,
@@ -38,7 +38,7 @@ fn follower_ok(
     if next >= states {
         return false;
     }
-    if v == 2 {
+    if (v == 1) | (v == 2) {
         return true;
     }
     verdict_in(plan, row_of(plan, n, first, next), n, next) == v

@@ -3,17 +3,18 @@ use mathlib.Core.Path.{_≡_, refl, sym, ap, ap₂, _∙_}
 use Prim.Native.Nat.{ℕ, zero, suc, _≤_, _<_}
 use native.Mathlib.Omega.{arith}
 use mathlib.Core.Bool.{Bool, true, false, not, _||_}
-use mathlib.Core.List.{List, [], _∷_, _++_, append-assoc}
+use mathlib.Core.List.{List, [], _∷_, _++_}
 use lib.ListN.{length}
 use lib.Dec.{ltb, eqb}
-use Rattle.semantics.specs.Bytes.{allOf, some-below, bit, mask, withBit}
+use Rattle.semantics.specs.Bytes.{entries, allOf, some-below, bit, mask, withBit}
 use Rattle.semantics.specs.Plan.{Plan, maxInteractions, interactions}
 use Rattle.semantics.specs.Refusal.{unless, refusal}
 use Rattle.semantics.specs.Rules.{planRules, planRefusal}
-use Rattle.semantics.specs.Move.{Configuration, enabled, outranked, eligible, after, good, mayCommit, safeMove, initial}
+use Rattle.semantics.specs.Move.{Configuration, enabled, outranked, eligible, after, good, mayCommit, safeMove, initial, replay}
 use Rattle.semantics.specs.Image.{imageLength, image, withMarks, marksOf, configurationOf, headMatches, marksOk, lengthRule, imageRules}
-use Rattle.semantics.specs.Calls.{committed, cancelled, penned, outcome, unlessRefused, clerkRules, offeredMask, tried, settled, Call, offered, try, settle, callRules, performed, called}
-use Rattle.semantics.specs.Book.{Book, replay, lane, bookImage, listed, crossedOff, bookOffered, bookRefusal, bookTried, unlessWrong, bookSettled, turn}
+use Rattle.semantics.specs.Calls.{committed, cancelled, penned, outcome, unlessRefused, clerkRules, offeredMask, tried, settled, handedIn, Call, offered, try, settle, list, callRules, performed, called}
+use Rattle.semantics.specs.Book.{Book, lane, bookImage, listed, crossedOff, bookOffered, bookRefusal, bookTried, unlessWrong, bookSettled, bookListed, turn}
+use Rattle.semantics.specs.Load.{listRules, completes}
 use Rattle.semantics.proofs.Basics.{bool-cases, absurd-bool, same-test, not-yes, or-cases, or-left, or-right, Each, ltb-true, ltb-false, eqb-true, eq-eqb, ne-eqb}
 use Rattle.semantics.proofs.Masks.{bit-mask, bit-mask-over, mask-wider, mask-same, mask-none}
 use Rattle.semantics.proofs.Refusing.{tests, numbered, none-refused, all-kept, refusal-after}
@@ -24,7 +25,8 @@ use Rattle.semantics.proofs.Sound.{Sound, shaped, configuration-ok, sou
 use Rattle.semantics.proofs.RankOrder.{rank-order}
 use Rattle.semantics.proofs.Ranking.{above-marked, outranked-same, eligible-same, eligible-enabled, eligible-top, eligible-from, commit-enabled, commit-good, commit-eligible, safe-commits}
 use Rattle.semantics.proofs.Maximal.{none-good}
-use Rattle.semantics.proofs.LawfulImage.{MarkKept, marks-ok}
+use Rattle.semantics.proofs.LawfulImage.{MarkKept, marks-ok, later-rules}
+use Rattle.semantics.proofs.Loads.{completes-all, completes-good, sound-replay, replay-append, replay-one}
 
 -- what a book keeps from an accepted start on: its lane is sound and good, and each move crossed off is enabled there and ends bad, as are those enabled above
 -- it, which are crossed off too
@@ -35,14 +37,13 @@ pub record Lawful (p : Plan) (k : Book) : Type 0 where
 
 -- ---- the book's lane
 
-pub replay-snoc : (p : Plan) (c : Configuration) (is : List ℕ) (i : ℕ) → replay p c (is ++ (i ∷ [])) ≡ after p (replay p c is) i
-unfolding replay
-replay-snoc p c [] i = refl
-replay-snoc p c (j ∷ is) i = replay-snoc p (after p c j) is i
-
-pub lane-listed : (p : Plan) (k : Book) (i : ℕ) → lane p (listed k i) ≡ after p (lane p k) i
+pub lane-listed : (p : Plan) (k : Book) (is : List ℕ) → lane p (listed k is) ≡ replay p (lane p k) is
 unfolding lane
-lane-listed p k i = replay-snoc p (initial p) (k .done) i
+lane-listed p k is = replay-append p (initial p) (k .done) is
+
+-- of one move
+pub lane-moved : (p : Plan) (k : Book) (i : ℕ) → lane p (listed k (i ∷ [])) ≡ after p (lane p k) i
+lane-moved p k i = lane-listed p k (i ∷ []) ∙ replay-one p (lane p k) i
 
 -- crossing moves off leaves the lane as it is
 pub lane-crossed : (p : Plan) (k : Book) (f : ℕ → Bool) → lane p (crossedOff k f) ≡ lane p k
@@ -50,9 +51,12 @@ unfolding lane
 lane-crossed p k f = refl
 
 -- the image after a commit is the book's
-image-listed : (p : Plan) (k : Book) (i : ℕ) → image p (after p (lane p k) i) 0 ≡ bookImage p (listed k i)
+image-listed : (p : Plan) (k : Book) (is : List ℕ) → image p (replay p (lane p k) is) 0 ≡ bookImage p (listed k is)
 unfolding bookImage
-image-listed p k i = ap₂ (image p) (sym (lane-listed p k i)) (sym (mask-none (interactions p)))
+image-listed p k is = ap₂ (image p) (sym (lane-listed p k is)) (sym (mask-none (interactions p)))
+
+image-moved : (p : Plan) (k : Book) (i : ℕ) → image p (after p (lane p k) i) 0 ≡ bookImage p (listed k (i ∷ []))
+image-moved p k i = ap (λ (c : Configuration). image p c 0) (sym (replay-one p (lane p k) i)) ∙ image-listed p k (i ∷ [])
 
 -- ---- under an accepted plan
 
@@ -149,7 +153,7 @@ module _ (p : Plan) (e : planRefusal p ≡ 0) where
     unfolding tried bookTried
     tried-same i l =
         rw held-lane
-        (bool-cases (good p (after p (lane p k) i)) (λ t. rw t (ap (outcome (committed i)) (image-listed p k i)))
+        (bool-cases (good p (after p (lane p k) i)) (λ t. rw t (ap (outcome (committed i)) (image-moved p k i)))
         (λ t. rw t (ap (outcome (cancelled i)) (cancelled-same i l))))
 
     -- past 14 the moves crossed off are enabled: crossing off all that are leaves exactly those
@@ -169,8 +173,15 @@ module _ (p : Plan) (e : planRefusal p ≡ 0) where
     settled-same =
         rw held-lane
         (bool-cases (ltb (safeMove p (lane p k)) (interactions p))
-        (λ t. rw t (ap (outcome (committed (safeMove p (lane p k)))) (image-listed p k (safeMove p (lane p k)))))
+        (λ t. rw t (ap (outcome (committed (safeMove p (lane p k)))) (image-moved p k (safeMove p (lane p k)))))
         (λ t. bool-cases (some-below (interactions p) (enabled p (lane p k .state))) (λ u. rw (t, u) (ap (outcome penned) penned-same)) (λ u. rw (t, u) refl)))
+
+    -- a list, on the lane that the image holds
+    handed-same : (is : List ℕ) → handedIn p (bookImage p k) is ≡ outcome (bookListed p k is .answer) (bookImage p (bookListed p k is .book))
+    unfolding handedIn bookListed
+    handed-same is =
+        rw held-lane
+        (bool-cases (completes p (lane p k) is) (λ t. rw t (ap (outcome (committed (length is))) (image-listed p k is))) (λ t. rw t refl))
 
     -- ---- one call
 
@@ -194,16 +205,12 @@ module _ (p : Plan) (e : planRefusal p ≡ 0) where
     pub allowed-commits : (i : ℕ) → Allowed i → good p (after p (lane p k) i) ≡ true → mayCommit p (lane p k) i ≡ true
     allowed-commits i a = commit-eligible p (lane p k) i (k .crossed) (λ j l b. h .crossed-bad j l b .ends-bad) (a .is-eligible)
 
-    -- nothing but 16 to 19 refuses a call
+    -- nothing but 16 to 19 and 22 refuses a call
     no-refusal : refusal (planRules p ++ imageRules p (bookImage p k)) ≡ 0
     no-refusal = refusal-after (planRules p) (imageRules p (bookImage p k)) plan-kept ∙ all-kept (imageRules p (bookImage p k)) image-kept
 
     try-refusal : (i : ℕ) → refusal (planRules p ++ imageRules p (bookImage p k) ++ clerkRules p (bookImage p k) i) ≡ bookRefusal p k i
-    try-refusal i =
-        ap refusal (append-assoc (planRules p) (imageRules p (bookImage p k)) (clerkRules p (bookImage p k) i))
-        ∙ refusal-after (planRules p) (imageRules p (bookImage p k) ++ clerkRules p (bookImage p k) i) plan-kept
-        ∙ refusal-after (imageRules p (bookImage p k)) (clerkRules p (bookImage p k) i) image-kept
-        ∙ clerk-same i
+    try-refusal i = later-rules p (bookImage p k) no-refusal (clerkRules p (bookImage p k) i) ∙ clerk-same i
 
     tried-unless : (i n : ℕ) → bookRefusal p k i ≡ n
         → unlessRefused n (bookImage p k) (tried p (bookImage p k) i)
@@ -212,25 +219,37 @@ module _ (p : Plan) (e : planRefusal p ≡ 0) where
     tried-unless i zero r = tried-same i (allowed-try i r .number<)
     tried-unless i (suc n) r = refl
 
+    listed-unless : (is : List ℕ) (n : ℕ)
+        → unlessRefused n (bookImage p k) (handedIn p (bookImage p k) is)
+        ≡ outcome (unlessWrong n k (bookListed p k is) .answer) (bookImage p (unlessWrong n k (bookListed p k is) .book))
+    unfolding unlessRefused unlessWrong
+    listed-unless is zero = handed-same is
+    listed-unless is (suc n) = refl
+
     pub one-call : (c : Call) → called p (bookImage p k) c ≡ outcome (turn p k c .answer) (bookImage p (turn p k c .book))
     unfolding called callRules performed turn bookOffered unlessRefused
     one-call offered = rw (no-refusal, offered-same)
     one-call (try i) = rw (try-refusal i) (tried-unless i (bookRefusal p k i) refl)
     one-call settle = rw no-refusal settled-same
+    one-call (list l) = rw (later-rules p (bookImage p k) no-refusal (listRules l)) (listed-unless (entries l) (refusal (listRules l)))
 
     -- ---- the book stays lawful
 
-    -- a move that may be committed is listed
-    pub listed-lawful : (i : ℕ) → i < interactions p → mayCommit p (lane p k) i ≡ true → Lawful p (listed k i)
+    -- moves that lead to a good lane are listed
+    all-lawful : (is : List ℕ) → Sound p (replay p (lane p k) is) → good p (replay p (lane p k) is) ≡ true → Lawful p (listed k is)
+    all-lawful is s g = record { sound = rw (lane-listed p k is) s; is-good = rw (lane-listed p k is) g; crossed-bad = λ j n b. absurd-bool b refl }
+
+    -- one that may be committed
+    pub listed-lawful : (i : ℕ) → i < interactions p → mayCommit p (lane p k) i ≡ true → Lawful p (listed k (i ∷ []))
     unfolding here
     listed-lawful i l m =
-        record {
-          sound =
-              rw (lane-listed p k i)
-              (sound-after p here (lane p k) (h .sound) i l (commit-enabled p (lane p k) i m));
-          is-good = rw (lane-listed p k i) (commit-good p (lane p k) i m);
-          crossed-bad = λ j n b. absurd-bool b refl;
-        }
+        all-lawful (i ∷ []) (rw (replay-one p (lane p k) i) (sound-after p here (lane p k) (h .sound) i l (commit-enabled p (lane p k) i m)))
+        (rw (replay-one p (lane p k) i) (commit-good p (lane p k) i m))
+
+    -- the entries of a list that completes
+    pub completed-lawful : (is : List ℕ) → completes p (lane p k) is ≡ true → Lawful p (listed k is)
+    completed-lawful is m =
+        all-lawful is (sound-replay p here (lane p k) (h .sound) is (completes-all p (lane p k) is m)) (completes-good p (lane p k) is m)
 
     -- moves that may be marked then are crossed off
     crossed-lawful : (f : ℕ → Bool) → ((i : ℕ) → i < interactions p → f i ≡ true → MarkKept p (lane p k) (crossedOff k f .crossed) i) → Lawful p (crossedOff k f)
@@ -285,8 +304,14 @@ module _ (p : Plan) (e : planRefusal p ≡ 0) where
         })))
         (λ u. rw (t, u) h))
 
+    handed-lawful : (is : List ℕ) (n : ℕ) → Lawful p (unlessWrong n k (bookListed p k is) .book)
+    unfolding unlessWrong bookListed
+    handed-lawful is zero = bool-cases (completes p (lane p k) is) (λ t. rw t (completed-lawful is t)) (λ t. rw t h)
+    handed-lawful is (suc n) = h
+
     pub turn-lawful : (c : Call) → Lawful p (turn p k c .book)
     unfolding turn bookOffered
     turn-lawful offered = h
     turn-lawful (try i) = wrong-lawful i (bookRefusal p k i) refl
     turn-lawful settle = settled-lawful
+    turn-lawful (list l) = handed-lawful (entries l) (refusal (listRules l))

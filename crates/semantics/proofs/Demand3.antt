@@ -6,10 +6,10 @@ use mathlib.Core.List.{List, [], _∷_}
 use Rattle.semantics.specs.Plan.{Plan}
 use Rattle.semantics.specs.Refusal.{refusal}
 use Rattle.semantics.specs.Rules.{planRules, planRefusal}
-use Rattle.semantics.specs.Move.{initial, good}
+use Rattle.semantics.specs.Move.{initial, good, replay}
 use Rattle.semantics.specs.Image.{Image, image, lengthRule}
 use Rattle.semantics.specs.Calls.{accepted, Outcome, outcome, unlessRefused, startRules, start, Call, calledAll, session}
-use Rattle.semantics.specs.Book.{Book, blank, lane, replay, bookImage, turn, told, bookSession}
+use Rattle.semantics.specs.Book.{Book, blank, lane, bookImage, turn, told, bookSession}
 use Rattle.semantics.proofs.Basics.{absurd-bool}
 use Rattle.semantics.proofs.Masks.{mask-none}
 use Rattle.semantics.proofs.Refusing.{numbered, refusal-before}

@@ -5,17 +5,17 @@ use mathlib.Core.Logic.{_↔_, Iff·rfl, Iff·trans, Iff·and}
 use Prim.Native.Nat.{ℕ, zero, suc, _+_, _≤_, _<_}
 use native.Mathlib.Nat.{le-antisymm, le-trans, zero-add}
 use mathlib.Core.Bool.{Bool, true, false, cond}
-use mathlib.Core.List.{[], _++_}
+use mathlib.Core.List.{List, [], _++_}
 use lib.ListN.{length}
 use lib.Dec.{ltb, eqb}
-use Rattle.semantics.specs.Bytes.{bit, mask, withBit}
+use Rattle.semantics.specs.Bytes.{entries, bit, mask, withBit}
 use Rattle.semantics.specs.Plan.{Plan, interactions, below}
 use Rattle.semantics.specs.Refusal.{refusal}
 use Rattle.semantics.specs.Rules.{planRules}
-use Rattle.semantics.specs.Move.{Configuration, enabled, outranked, after, good, mayCommit, safeMove, initial}
+use Rattle.semantics.specs.Move.{Configuration, enabled, outranked, after, good, mayCommit, safeMove, replay, initial}
 use Rattle.semantics.specs.Image.{Image, image, withMarks, marksOf, configurationOf, lengthRule, imageRules}
-use Rattle.semantics.specs.Calls.{Answer, accepted, offers, committed, cancelled, stalled, penned, refused, Outcome, outcome, unlessRefused, check, startRules, start, clerkRules, offeredMask, Call, offered, try, settle, callRules, performed, called, offeredBits}
-use Rattle.semantics.specs.Log.{Log, entries, wrong, walked, logRules, checkLog}
+use Rattle.semantics.specs.Calls.{Answer, accepted, offers, committed, cancelled, stalled, penned, refused, Outcome, outcome, unlessRefused, check, startRules, start, clerkRules, offeredMask, Call, offered, try, settle, list, callRules, performed, called, offeredBits}
+use Rattle.semantics.specs.Log.{Log, wrong, walked, logRules, checkLog}
 use Rattle.semantics.proofs.Basics.{bool-cases, absurd-bool, not-yes, ltb-true, ltb-false, eqb-true, eqb-false, some-found}
 use Rattle.semantics.proofs.Masks.{bit-zero, bit-mask, mask-holds}
 use Rattle.semantics.proofs.Ranking.{above-marked, commit-enabled, commit-good, commit-above, commit-from, safe-commits, safe-lowest, safe-none}
@@ -24,8 +24,9 @@ use Rattle.semantics.proofs.Counting.{among}
 use Rattle.semantics.proofs.RuleLists.{Kept, keeps, kept-append, kept-number}
 use Rattle.semantics.proofs.AcceptedPlan.{accepted-plan, counts-of, mask-small}
 use Rattle.semantics.proofs.LawfulImage.{LawfulImage, lawful-image, marks-kept}
+use Rattle.semantics.proofs.Loads.{stops-within}
 use Rattle.semantics.proofs.PennedExactly.{Stuck, penned-exactly}
-use Rattle.semantics.proofs.Performed.{Performs, offering, committing, cancelling, settling, penning, stalling, performs, other-kind}
+use Rattle.semantics.proofs.Performed.{Performs, offering, committing, cancelling, settling, penning, stalling, completing, stopping, performs, other-kind}
 use Rattle.semantics.proofs.RefusedUnchanged.{Refused, same-not-refused, accepted-not-refused, performed-not-refused, not-refused, called-performed, answers-exactly, own-exactly, kept-exactly, refused-is}
 use Rattle.semantics.proofs.RefusalConditions.{AnyCall, checking, starting, calling, logging, answerTo, rulesOf, numbersOf, all-numbered, gives-own}
 use Rattle.semantics.proofs.LogWalk.{causeNumbers, cause-number, Walks, through, stops, walks, walk-not-refused}
@@ -41,7 +42,7 @@ unrefused-exactly p (starting b) = kept-exactly (startRules p b) b _ (all-number
 unrefused-exactly p (calling b k) = kept-exactly (callRules p b k) b _ (all-numbered p (calling b k)) (performed-not-refused p b k)
 unrefused-exactly p (logging l) = kept-exactly (logRules p l) [] _ (all-numbered p (logging l)) (walk-not-refused p (initial p) (entries l))
 
-call-exactly : (p : Plan) (b : Image) (k : Call) (a : Answer) {C : Type 0} → ¬ Refused a → performed p b k .answer ≡ a ↔ C
+pub call-exactly : (p : Plan) (b : Image) (k : Call) (a : Answer) {C : Type 0} → ¬ Refused a → performed p b k .answer ≡ a ↔ C
     → called p b k .answer ≡ a ↔ Kept (callRules p b k) × C
 unfolding called
 call-exactly p b k a f c = Iff·trans (answers-exactly (callRules p b k) b (performed p b k) (all-numbered p (calling b k)) a f) (Iff·and Iff·rfl c)
@@ -226,6 +227,8 @@ pub data Answers (p : Plan) : AnyCall → Answer → Type 0 where
   commits-lowest : {b : Image} (i : ℕ) → i < interactions p → Answers p (calling b settle) (committed i)
   stalls : {b : Image} → Answers p (calling b settle) stalled
   pens : {b : Image} → Answers p (calling b settle) penned
+  commits-list : {b : Image} {l : List ℕ} → Answers p (calling b (list l)) (committed (length (entries l)))
+  stops-list : {b : Image} {l : List ℕ} (k : ℕ) → k ≤ length (entries l) → Answers p (calling b (list l)) (cancelled k)
   accepts-log : {l : Log} → Answers p (logging l) accepted
   finds-wrong : {l : Log} (n k : ℕ) → among n causeNumbers ≡ true → k < length (entries l) → Answers p (logging l) (wrong n k)
 
@@ -237,6 +240,8 @@ performed-answer p b (try i) h (cancelling g) = cancels-tried (ltb-true _ _ (kep
 performed-answer p b _ h (settling l) = commits-lowest _ l
 performed-answer p b _ h (penning t u) = pens
 performed-answer p b _ h (stalling n) = stalls
+performed-answer p b (list l) h (completing t) = commits-list
+performed-answer p b (list l) h (stopping t) = stops-list _ (stops-within p (configurationOf b) (entries l))
 
 walked-answer : (p : Plan) (l : Log) {a : Answer} → Walks p (initial p) 0 (entries l) a → Answers p (logging l) a
 walked-answer p l (through r) = accepts-log
@@ -262,14 +267,17 @@ every-answer p (logging l) =
 -- ---- the bytes after each answer
 
 -- What the image b is after an answer of offered, try or settle: the new state without marks after a commit, one more mark after a cancelled move, every enabled
--- interaction marked after penned; as it was after any other.
-unfoldable pub bytesAfter : Plan → Image → Answer → Image
-bytesAfter p b a =
+-- interaction marked after penned; as it was after any other. After a list: the state after all its entries, without marks, or as it was.
+unfoldable pub bytesAfter : Plan → Image → Call → Answer → Image
+bytesAfter p b offered a = b
+bytesAfter p b (try i) a =
+    cond (eqb (a .kind) 1) (image p (after p (configurationOf b) (a .number)) 0) (cond (eqb (a .kind) 2) (withMarks b (withBit (marksOf b) (a .number))) b)
+bytesAfter p b settle a =
     cond (eqb (a .kind) 1) (image p (after p (configurationOf b) (a .number)) 0)
-    (cond (eqb (a .kind) 2) (withMarks b (withBit (marksOf b) (a .number)))
-    (cond (eqb (a .kind) 4) (withMarks b (mask (interactions p) (enabled p (configurationOf b .state)))) b))
+    (cond (eqb (a .kind) 4) (withMarks b (mask (interactions p) (enabled p (configurationOf b .state)))) b)
+bytesAfter p b (list l) a = cond (eqb (a .kind) 1) (image p (replay p (configurationOf b) (entries l)) 0) b
 
-performed-bytes : (p : Plan) (b : Image) (k : Call) {o : Outcome} → Performs p b k o → o .image ≡ bytesAfter p b (o .answer)
+performed-bytes : (p : Plan) (b : Image) (k : Call) {o : Outcome} → Performs p b k o → o .image ≡ bytesAfter p b k (o .answer)
 unfolding bytesAfter
 performed-bytes p b _ offering = refl
 performed-bytes p b _ (committing g) = refl
@@ -277,14 +285,23 @@ performed-bytes p b _ (cancelling g) = refl
 performed-bytes p b _ (settling l) = refl
 performed-bytes p b _ (penning t u) = refl
 performed-bytes p b _ (stalling n) = refl
+performed-bytes p b _ (completing t) = refl
+performed-bytes p b _ (stopping t) = refl
 
-pub bytes-after : (p : Plan) (b : Image) (k : Call) → called p b k .image ≡ bytesAfter p b (called p b k .answer)
-unfolding called unlessRefused bytesAfter
+refused-bytes : (p : Plan) (b : Image) (k : Call) (n : ℕ) → b ≡ bytesAfter p b k (refused n)
+unfolding bytesAfter
+refused-bytes p b offered n = refl
+refused-bytes p b (try i) n = refl
+refused-bytes p b settle n = refl
+refused-bytes p b (list l) n = refl
+
+pub bytes-after : (p : Plan) (b : Image) (k : Call) → called p b k .image ≡ bytesAfter p b k (called p b k .answer)
+unfolding called unlessRefused
 bytes-after p b k = go (refusal (callRules p b k))
   where
-    go : (n : ℕ) → unlessRefused n b (performed p b k) .image ≡ bytesAfter p b (unlessRefused n b (performed p b k) .answer)
+    go : (n : ℕ) → unlessRefused n b (performed p b k) .image ≡ bytesAfter p b k (unlessRefused n b (performed p b k) .answer)
     go zero = performed-bytes p b k (performs p b k)
-    go (suc n) = refl
+    go (suc n) = refused-bytes p b k (suc n)
 
 -- An accepted start leaves the starting state, judged and without marks; a refused one the image as it was (start-refused-unchanged).
 pub start-bytes : (p : Plan) (b : Image) → start p b .answer ≡ accepted → start p b .image ≡ image p (initial p) 0
@@ -313,7 +330,7 @@ penned-bytes p b e =
     let m : ℕ = mask (interactions p) on in
     let (h, _) = call-exactly p b settle penned (eqb-false 4 5 refl) Iff·rfl .0 e in
     let g : LawfulImage p b = lawful-image p b (all-kept (callRules p b settle) h) in
-    subst (EnabledMarked p b) (sym (bytes-after p b settle ∙ ap (bytesAfter p b) e))
+    subst (EnabledMarked p b) (sym (bytes-after p b settle ∙ ap (bytesAfter p b settle) e))
     (record {
       marks = λ j. rw (marks-written b m (g .long) (mask-small p (g .plan-accepted) on)) (mask-holds (interactions p) on j, λ (l, n). bit-mask (interactions p) on j l ∙ n);
       others = others-same b m (g .long);

@@ -2,11 +2,11 @@
 use mathlib.Core.Path.{_≡_, refl, sym, ap, _∙_}
 use Prim.Native.Nat.{ℕ, _<_}
 use mathlib.Core.Bool.{Bool, true, false, not}
-use mathlib.Core.List.{_++_}
+use mathlib.Core.List.{List, _++_}
 use lib.ListN.{length}
 use Rattle.semantics.specs.Bytes.{implies, bit}
 use Rattle.semantics.specs.Plan.{Plan, maxComponents, maxVariables, maxInteractions, interactions, below}
-use Rattle.semantics.specs.Refusal.{refusal}
+use Rattle.semantics.specs.Refusal.{Rule, refusal}
 use Rattle.semantics.specs.Rules.{planRules, planRefusal}
 use Rattle.semantics.specs.Move.{Configuration, enabled, after, oraclesInRange, good}
 use Rattle.semantics.specs.Image.{Image, imageLength, marksOf, configurationOf, headMatches, locationOk, lastPortOk, valueOk, configurationOk, markOk, marksOk, lengthRule, imageRules}
@@ -84,3 +84,10 @@ lawful-image p b e =
     let plan-kept = none-refused (planRules p) (plan-numbered p) t in
     let kept : (n : ℕ) → keeps n (imageRules p b) ≡ true = rule-kept (imageRules p b) refl (sym (refusal-after (planRules p) (imageRules p b) plan-kept) ∙ e) in
     record { plan-accepted = t; long = eqb-true _ _ (kept 11); head = kept 12; configuration = kept 13; marks = kept 14 }
+
+-- there the rules that follow decide
+pub later-rules : (p : Plan) (b : Image) → refusal (planRules p ++ imageRules p b) ≡ 0 → (rs : List Rule) → refusal (planRules p ++ imageRules p b ++ rs) ≡ refusal rs
+later-rules p b e rs = refusal-after (planRules p ++ imageRules p b) rs (none-refused (planRules p ++ imageRules p b) all-numbered e)
+  where
+    all-numbered : numbered (planRules p ++ imageRules p b) ≡ true
+    all-numbered = unfold numbered planRules imageRules lengthRule in refl

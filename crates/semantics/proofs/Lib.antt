@@ -20,6 +20,8 @@ pub mod GuardsPure
 pub mod Images
 pub mod ImagesRead
 pub mod LawfulImage
+pub mod ListExactly
+pub mod Loads
 pub mod LogEntries
 pub mod LogExactly
 pub mod LogRuns
@@ -35,6 +37,7 @@ pub mod OldMeaning
 pub mod OldPlans
 pub mod OldRanking
 pub mod OldSums
+pub mod OldVerdicts
 pub mod OneCall
 pub mod OneMoreOracle
 pub mod OneMove

@@ -5,13 +5,13 @@ use native.Mathlib.Omega.{arith}
 use mathlib.Core.List.{List, [], _∷_}
 use lib.ListN.{length, getD, drop, length-append, drop-of-length-le}
 use lib.Seq.{drop-cons}
-use Rattle.semantics.specs.Bytes.{byte, u16, leBytes, table}
-use Rattle.semantics.specs.Log.{Log, entries, logOf}
+use Rattle.semantics.specs.Bytes.{entries, byte, u16, leBytes, table}
+use Rattle.semantics.specs.Log.{Log, logOf}
 use Rattle.semantics.proofs.Basics.{length-table, getD-table, table-same}
 use Rattle.semantics.proofs.Masks.{length-leBytes}
 
 -- two bytes an entry
-entries-long : (l : Log) → length (entries l) ≡ length l / 2
+pub entries-long : (l : Log) → length (entries l) ≡ length l / 2
 unfolding entries
 entries-long l = length-table (length l / 2) (λ k. u16 l (2 * k))
 

@@ -5,13 +5,13 @@ use mathlib.Core.Logic.{_↔_, _≢_, Iff·rfl, Iff·trans, Iff·and}
 use Prim.Native.Nat.{ℕ}
 use mathlib.Core.Bool.{true}
 use mathlib.Core.List.{[]}
-use Rattle.semantics.specs.Bytes.{table}
+use Rattle.semantics.specs.Bytes.{entries, table}
 use Rattle.semantics.specs.Plan.{Plan}
 use Rattle.semantics.specs.Rules.{planRules}
 use Rattle.semantics.specs.Move.{good, initial}
 use Rattle.semantics.specs.Calls.{Answer, accepted}
 use Rattle.semantics.specs.Run.{isRun}
-use Rattle.semantics.specs.Log.{Log, entries, wrong, logRules, checkLog, logIndex}
+use Rattle.semantics.specs.Log.{Log, wrong, logRules, checkLog, logIndex}
 use Rattle.semantics.proofs.Basics.{eqb-false}
 use Rattle.semantics.proofs.RuleLists.{Kept, kept-append}
 use Rattle.semantics.proofs.RefusedUnchanged.{accepted-not-refused, answers-exactly}

@@ -4,24 +4,50 @@ use mathlib.Core.Logic.{_↔_}
 use Prim.Native.Nat.{ℕ, zero, suc, _+_, _≤_, _<_}
 use native.Mathlib.Nat.{suc-ne-zero, zero-lt-suc, le-of-suc-le-suc, not-suc-le-zero, add-zero, zero-add}
 use native.Mathlib.Omega.{arith}
-use mathlib.Core.Bool.{true, false, and-true}
+use mathlib.Core.Bool.{Bool, true, false, not, and-true}
 use mathlib.Core.List.{List, [], _∷_}
 use lib.ListN.{length, getD, take}
 use lib.Dec.{ltb}
 use Rattle.semantics.specs.Bytes.{allOf}
 use Rattle.semantics.specs.Plan.{Plan, interactions, below}
-use Rattle.semantics.specs.Move.{Configuration, enabled, dominated, after, good, mayCommit}
+use Rattle.semantics.specs.Move.{Configuration, enabled, dominated, after, reaches, good, leadsAbove, mayCommit, replay}
 use Rattle.semantics.specs.Refusal.{refusal, unless}
 use Rattle.semantics.specs.Calls.{Answer, accepted}
-use Rattle.semantics.specs.Book.{replay}
 use Rattle.semantics.specs.Run.{isRun}
-use Rattle.semantics.specs.Log.{causeRules, cause, right, wrong, walked}
+use Rattle.semantics.specs.Log.{causeRules, causeFrom, passes, cause, right, wrong, walked}
 use Rattle.semantics.proofs.Basics.{bool-cases, absurd-bool, not-yes, each, all-of, ltb-true, lt-ltb, ltb-false, le-ltb, eqb-true, eqb-false, ne-eqb}
 use Rattle.semantics.proofs.Counting.{among}
 use Rattle.semantics.proofs.Refusing.{numbered, none-refused}
 use Rattle.semantics.proofs.Performed.{other-kind}
 use Rattle.semantics.proofs.RefusedUnchanged.{Refused, accepted-not-refused}
 use Rattle.semantics.proofs.Ranking.{dominated-exactly, commit-enabled, commit-good, commit-above, commit-from}
+
+-- ---- one move that is to lead to a verdict of v or more: its cause, and whether it passes, test by test
+
+module _ (p : Plan) (v : ℕ) (c : Configuration) (i : ℕ) where
+  pub cause-none : i < interactions p → enabled p (c .state) i ≡ true → leadsAbove p v c i ≡ false → causeFrom p v c i ≡ 0
+  unfolding causeFrom causeRules refusal unless
+  cause-none l e d = rw (lt-ltb i (interactions p) l, e) (ap (λ (b : Bool). unless (not b) 18 0) d)
+
+  pub cause-high : interactions p ≤ i → causeFrom p v c i ≡ 16
+  unfolding causeFrom causeRules refusal unless
+  cause-high h = rw (le-ltb i (interactions p) h) refl
+
+  pub cause-disabled : i < interactions p → enabled p (c .state) i ≡ false → causeFrom p v c i ≡ 17
+  unfolding causeFrom causeRules refusal unless
+  cause-disabled l e = rw (lt-ltb i (interactions p) l, e) refl
+
+  pub cause-above : i < interactions p → enabled p (c .state) i ≡ true → leadsAbove p v c i ≡ true → causeFrom p v c i ≡ 18
+  unfolding causeFrom causeRules refusal unless
+  cause-above l e d = rw (lt-ltb i (interactions p) l, e) (ap (λ (b : Bool). unless (not b) 18 0) d)
+
+  pub caused-stops : (n : ℕ) → causeFrom p v c i ≡ suc n → passes p v c i ≡ false
+  unfolding passes allOf
+  caused-stops n e = rw (e, ne-eqb (suc n) 0 (suc-ne-zero n)) refl
+
+  pub uncaused-passes : causeFrom p v c i ≡ 0 → passes p v c i ≡ reaches p v (after p c i .oracles)
+  unfolding passes allOf
+  uncaused-passes z = rw z (and-true (reaches p v (after p c i .oracles)))
 
 -- ---- one entry
 
@@ -50,68 +76,44 @@ module _ (p : Plan) (c : Configuration) (i : ℕ) where
   undominated : ¬ GoodAbove → dominated p c i ≡ false
   undominated f = bool-cases (dominated p c i) (λ d. absurd (f (dominated-exactly p c i .0 d))) (λ d. d)
 
-  -- ---- the cause, and whether the entry is right, test by test
-
-  pub cause-none : i < interactions p → enabled p (c .state) i ≡ true → dominated p c i ≡ false → cause p c i ≡ 0
-  unfolding cause causeRules refusal unless
-  cause-none l e d = rw (lt-ltb i (interactions p) l, e, d) refl
-
-  pub cause-high : interactions p ≤ i → cause p c i ≡ 16
-  unfolding cause causeRules refusal unless
-  cause-high h = rw (le-ltb i (interactions p) h) refl
-
-  pub cause-disabled : i < interactions p → enabled p (c .state) i ≡ false → cause p c i ≡ 17
-  unfolding cause causeRules refusal unless
-  cause-disabled l e = rw (lt-ltb i (interactions p) l, e) refl
-
-  pub cause-dominated : i < interactions p → enabled p (c .state) i ≡ true → dominated p c i ≡ true → cause p c i ≡ 18
-  unfolding cause causeRules refusal unless
-  cause-dominated l e d = rw (lt-ltb i (interactions p) l, e, d) refl
-
-  pub caused-wrong : (n : ℕ) → cause p c i ≡ suc n → right p c i ≡ false
-  unfolding right allOf
-  caused-wrong n e = rw (e, ne-eqb (suc n) 0 (suc-ne-zero n)) refl
-
-  pub uncaused : cause p c i ≡ 0 → right p c i ≡ good p (after p c i)
-  unfolding right allOf
-  uncaused z = rw z (and-true (good p (after p c i)))
-
   -- ---- the same exactly
 
   -- an entry is right exactly where it is a move that may be committed
   pub right-exactly : right p c i ≡ true ↔ (i < interactions p) × (mayCommit p c i ≡ true)
-  unfolding right cause causeRules numbered
+  unfolding right passes causeFrom causeRules dominated good numbered
   right-exactly = (from, to)
     where
       from : right p c i ≡ true → (i < interactions p) × (mayCommit p c i ≡ true)
       from e =
           let (z, (g, _)) = each _ e in
-          let (l, (on, (top, _))) = none-refused (causeRules p c i) refl (eqb-true _ 0 z) in
+          let (l, (on, (top, _))) = none-refused (causeRules p 2 c i) refl (eqb-true _ 0 z) in
           (ltb-true i (interactions p) l, commit-from p c i on g (λ j h b up. bool-cases (good p (after p c j)) (λ w. absurd-bool (dominated-exactly p c i .1 (j, h, b, up, w)) (not-yes _ top)) (λ w. w)))
 
       to : (i < interactions p) × (mayCommit p c i ≡ true) → right p c i ≡ true
       to (l, m) =
           let f : ¬ GoodAbove = λ (j, h, b, up, g). absurd-bool g (commit-above p c i m j h b up) in
-          uncaused (cause-none l (commit-enabled p c i m) (undominated f)) ∙ commit-good p c i m
+          uncaused-passes p 2 c i (cause-none p 2 c i l (commit-enabled p c i m) (undominated f)) ∙ commit-good p c i m
 
   causes : right p c i ≡ false → Cause (cause p c i)
+  unfolding right cause dominated good
   causes r =
       bool-cases (ltb i (interactions p))
       (λ t.
       let l : i < interactions p = ltb-true i (interactions p) t in
       bool-cases (enabled p (c .state) i)
       (λ e. bool-cases (dominated p c i)
-      (λ d. subst Cause (sym (cause-dominated l e d)) (good-above l e (dominated-exactly p c i .0 d)))
-      (λ d. let z = cause-none l e d in
-      subst Cause (sym z) (ends-bad l e (λ g. absurd-bool (dominated-exactly p c i .1 g) d) (sym (uncaused z) ∙ r))))
-      (λ e. subst Cause (sym (cause-disabled l e)) (not-enabled l e)))
-      (λ t. let h : interactions p ≤ i = ltb-false i (interactions p) t in subst Cause (sym (cause-high h)) (no-such-move h))
+      (λ d. subst Cause (sym (cause-above p 2 c i l e d)) (good-above l e (dominated-exactly p c i .0 d)))
+      (λ d. let z = cause-none p 2 c i l e d in
+      subst Cause (sym z) (ends-bad l e (λ g. absurd-bool (dominated-exactly p c i .1 g) d) (sym (uncaused-passes p 2 c i z) ∙ r))))
+      (λ e. subst Cause (sym (cause-disabled p 2 c i l e)) (not-enabled l e)))
+      (λ t. let h : interactions p ≤ i = ltb-false i (interactions p) t in subst Cause (sym (cause-high p 2 c i h)) (no-such-move h))
 
   caused : {n : ℕ} → Cause n → (right p c i ≡ false) × (cause p c i ≡ n)
-  caused (no-such-move h) = let e = cause-high h in (caused-wrong 15 e, e)
-  caused (not-enabled l e) = let w = cause-disabled l e in (caused-wrong 16 w, w)
-  caused (good-above l e g) = let w = cause-dominated l e (dominated-exactly p c i .1 g) in (caused-wrong 17 w, w)
-  caused (ends-bad l e f b) = let w = cause-none l e (undominated f) in (uncaused w ∙ b, w)
+  unfolding right cause dominated good
+  caused (no-such-move h) = let e = cause-high p 2 c i h in (caused-stops p 2 c i 15 e, e)
+  caused (not-enabled l e) = let w = cause-disabled p 2 c i l e in (caused-stops p 2 c i 16 w, w)
+  caused (good-above l e g) = let w = cause-above p 2 c i l e (dominated-exactly p c i .1 g) in (caused-stops p 2 c i 17 w, w)
+  caused (ends-bad l e f b) = let w = cause-none p 2 c i l e (undominated f) in (uncaused-passes p 2 c i w ∙ b, w)
 
   -- an entry is wrong by the cause n exactly where n is the first cause that fits it
   pub cause-exactly : (n : ℕ) → (right p c i ≡ false) × (cause p c i ≡ n) ↔ Cause n

@@ -1,27 +1,32 @@
 -- 02, job 3: settling "past 14 does not depend on the marks". Two images that differ in the marks alone, neither refused, get the same answer and are left the
--- same in every byte, marks included.
+-- same in every byte, marks included. 02, job 6, has it of a list too.
 use mathlib.Core.Path.{_≡_, refl, sym, ap, ap₂, _∙_}
 use Prim.Native.Nat.{ℕ, _<_}
 use native.Mathlib.Omega.{arith}
-use mathlib.Core.Bool.{false}
+use mathlib.Core.Bool.{true, false}
 use mathlib.Core.List.{List, _++_, append-assoc}
 use lib.ListN.{length, take, drop, take-append-drop}
 use lib.Seq.{drop-drop}
 use lib.Dec.{ltb}
-use Rattle.semantics.specs.Bytes.{byte, u32, u64, leBytes, some-below, bit, mask, table}
+use Rattle.semantics.specs.Bytes.{entries, byte, u32, u64, leBytes, some-below, bit, mask, table}
+use Rattle.semantics.specs.Rules.{planRules}
+use Rattle.semantics.specs.Run.{commits}
 use Rattle.semantics.specs.Plan.{Plan, maxInteractions, interactions}
-use Rattle.semantics.specs.Move.{Configuration, enabled, safeMove}
-use Rattle.semantics.specs.Image.{Image, imageLength, withMarks, marksOf, configurationOf}
-use Rattle.semantics.specs.Calls.{stalled, penned, outcome, settled, settle, callRules, performed, called}
+use Rattle.semantics.specs.Move.{Configuration, enabled, safeMove, replay}
+use Rattle.semantics.specs.Load.{listRules, completes}
+use Rattle.semantics.specs.Image.{Image, imageLength, image, withMarks, marksOf, configurationOf, imageRules}
+use Rattle.semantics.specs.Calls.{stalled, penned, Outcome, outcome, settled, handedIn, settle, list, callRules, performed, called}
 use Rattle.semantics.proofs.Basics.{bool-cases, absurd-bool, some-none, part-table}
 use Rattle.semantics.proofs.Masks.{mask-none, mask-same, mask-bits}
 use Rattle.semantics.proofs.Refusing.{all-kept}
+use Rattle.semantics.proofs.RuleLists.{kept-append}
 use Rattle.semantics.proofs.LawfulImage.{LawfulImage, lawful-image, marks-kept}
 use Rattle.semantics.proofs.ImagesRead.{marked-same}
 use Rattle.semantics.proofs.RefusedUnchanged.{Refused, called-performed}
 use Rattle.semantics.proofs.RefusalConditions.{calling}
 use Rattle.semantics.proofs.OneCall.{SameButMarks}
 use Rattle.semantics.proofs.ExactAnswers.{unrefused-exactly}
+use Rattle.semantics.proofs.ListExactly.{list-bytes}
 
 -- the entries of an image are bytes, as a slice's are
 abbrev pub Bytes : Image → Type 0
@@ -106,3 +111,22 @@ module _ (p : Plan) where
   unfolding performed
   settling-alone b b' same bs bs' f f' =
       called-performed p b settle f ∙ settled-alike b b' same (unrefused-lawful b f) (unrefused-lawful b' f') bs bs' ∙ sym (called-performed p b' settle f')
+
+  -- "Past 14, marks do not affect a list": two images that differ in the marks alone, neither refused, get the same answer, and where it is a commit the same bytes
+  pub list-alone : (b b' : Image) (l : List ℕ) → SameButMarks b b' → ¬ Refused (called p b (list l) .answer) → ¬ Refused (called p b' (list l) .answer)
+      → (called p b (list l) .answer ≡ called p b' (list l) .answer)
+      × (commits (called p b (list l) .answer) ≡ true → called p b (list l) .image ≡ called p b' (list l) .image)
+  unfolding performed handedIn
+  list-alone b b' l same f f' =
+      let held = same-configuration b b' same (listed-long b l f) (listed-long b' l f') in
+      let alike : called p b (list l) .answer ≡ called p b' (list l) .answer
+      = ap (λ (o : Outcome). o .answer) (called-performed p b (list l) f) ∙ answered held ∙ sym (ap (λ (o : Outcome). o .answer) (called-performed p b' (list l) f')) in
+      (alike, λ w. list-bytes p b l w ∙ ap (λ (c : Configuration). image p (replay p c (entries l)) 0) held ∙ sym (list-bytes p b' l (sym (ap commits alike) ∙ w)))
+    where
+      listed-long : (b : Image) (l : List ℕ) → ¬ Refused (called p b (list l) .answer) → length b ≡ imageLength
+      listed-long b l f =
+          let h = unrefused-exactly p (calling b (list l)) .0 f in
+          lawful-image p b (all-kept (planRules p ++ imageRules p b) (unfold callRules in (kept-append (planRules p ++ imageRules p b) (listRules l) .0 h .0))) .long
+
+      answered : configurationOf b ≡ configurationOf b' → handedIn p b (entries l) .answer ≡ handedIn p b' (entries l) .answer
+      answered held = rw held (bool-cases (completes p (configurationOf b') (entries l)) (λ t. rw t refl) (λ t. rw t refl))

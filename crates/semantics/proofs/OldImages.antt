@@ -8,20 +8,21 @@ use mathlib.Core.List.{List, [], _∷_, _++_}
 use lib.ListN.{length, getD, take, drop}
 use lib.Seq.{getD-take, getD-drop}
 use lib.Dec.{eqb}
-use Rattle.semantics.specs.Bytes.{byte, allOf, implies, every, table, bit}
+use Rattle.semantics.specs.Bytes.{entries, byte, allOf, implies, every, table, bit}
 use Rattle.semantics.specs.Plan.{Plan, maxOracles, maxInteractions, oracleStates}
 use Rattle.semantics.specs.Refusal.{Rule, rule, refusal}
 use Rattle.semantics.specs.Rules.{planRules, planRefusal}
 use Rattle.semantics.specs.Move.{Configuration, after, initial, stateInRange, oraclesInRange, good, safeMove}
 use Rattle.semantics.specs.Image.{Image, imageLength, oraclesPlace, head, image, withMarks, marksOf, configurationOf, oracleByte, headMatches, configurationOk, markOk, marksOk, lengthRule, imageRules}
-use Rattle.semantics.specs.Calls.{accepted, outcome, Outcome, unlessRefused, check, startRules, start, clerkRules, offeredMask, tried, settled, Call, offered, try, settle, callRules, performed, called, calledAll, session}
+use Rattle.semantics.specs.Calls.{accepted, outcome, Outcome, unlessRefused, check, startRules, start, clerkRules, offeredMask, tried, settled, handedIn, Call, offered, try, settle, list, callRules, performed, called, calledAll, session}
+use Rattle.semantics.specs.Load.{listRules}
 use Rattle.semantics.proofs.Basics.{eqb-true, every-at, part-table}
 use Rattle.semantics.proofs.Refusing.{numbered}
 use Rattle.semantics.proofs.RuleLists.{keeps, rule-kept}
 use Rattle.semantics.proofs.OneCall.{others-same}
-use Rattle.semantics.proofs.Performed.{Performs, offering, committing, cancelling, settling, penning, stalling, performs}
+use Rattle.semantics.proofs.Performed.{Performs, offering, committing, cancelling, settling, penning, stalling, completing, stopping, performs}
 use Rattle.semantics.proofs.ExactAnswers.{start-bytes}
-use Rattle.semantics.proofs.OldPlans.{OldPlan, none-added, same-rules, same-refusal, asNow, asOld, same-after, same-initial, same-good, same-good-after, same-safeMove}
+use Rattle.semantics.proofs.OldPlans.{OldPlan, none-added, same-rules, same-refusal, asNow, asOld, same-after, same-initial, same-good, same-good-after, same-safeMove, same-stops, same-replay, same-completes}
 use Rattle.semantics.proofs.OldMeaning as old
 
 -- An image with no state of an added oracle: bytes 9 to 11 are zero.
@@ -85,10 +86,11 @@ marked-old b m e z = record { image-zero = λ k l. at (9 + k) (omega arith) ∙ 
 
 -- a call that is not refused has an image of the right length
 call-long : (p : Plan) (b : Image) (k : Call) → refusal (callRules p b k) ≡ 0 → length b ≡ imageLength
-unfolding callRules planRules imageRules lengthRule clerkRules numbered keeps
+unfolding callRules planRules imageRules lengthRule clerkRules listRules numbered keeps
 call-long p b offered e = eqb-true _ _ (rule-kept (callRules p b offered) refl e 11)
 call-long p b (try i) e = eqb-true _ _ (rule-kept (callRules p b (try i)) refl e 11)
 call-long p b settle e = eqb-true _ _ (rule-kept (callRules p b settle) refl e 11)
+call-long p b (list l) e = eqb-true _ _ (rule-kept (callRules p b (list l)) refl e 11)
 
 module _ (p : Plan) (o : OldPlan p) where
   -- ---- the keeper's refusals
@@ -153,12 +155,20 @@ module _ (p : Plan) (o : OldPlan p) where
   pub same-safe-read : (b : Image) → safeMove p (configurationOf b) ≡ old.safeMove p (old.configurationOf b)
   same-safe-read b = same-safeMove p o (configurationOf b) ∙ ap (old.safeMove p) (same-read b)
 
-  -- What a call does that is not refused, on any image.
-  pub same-performed : (b : Image) (k : Call) → performed p b k ≡ old.performed p b k
+  -- A list, on an old image of the right length.
+  same-handed : (b : Image) → OldImage b → length b ≡ imageLength → (is : List ℕ) → handedIn p b is ≡ old.handedIn p b is
+  unfolding handedIn old.handedIn
+  same-handed b z e is =
+      let c = old.configurationOf b in
+      rw (same-configuration b z e, same-completes p o c is, same-stops p o (asNow c) is, same-replay p o c is, same-image p (old.replay p c is) 0)
+
+  -- What a call does that is not refused, on an old image of the right length.
+  pub same-performed : (b : Image) → OldImage b → length b ≡ imageLength → (k : Call) → performed p b k ≡ old.performed p b k
   unfolding performed old.performed offeredMask old.offeredMask tried old.tried settled old.settled configurationOf old.configurationOf
-  same-performed b offered = refl
-  same-performed b (try i) = rw (same-good-read b i, same-image-after b i)
-  same-performed b settle = rw (same-safe-read b, same-image-after b (old.safeMove p (old.configurationOf b)))
+  same-performed b z e offered = refl
+  same-performed b z e (try i) = rw (same-good-read b i, same-image-after b i)
+  same-performed b z e settle = rw (same-safe-read b, same-image-after b (old.safeMove p (old.configurationOf b)))
+  same-performed b z e (list l) = same-handed b z e (entries l)
 
   -- The refusal of a call.
   pub same-call-refusal : (b : Image) → OldImage b → (k : Call) → refusal (callRules p b k) ≡ refusal (old.callRules p b k)
@@ -166,11 +176,16 @@ module _ (p : Plan) (o : OldPlan p) where
   same-call-refusal b z offered = same-rules p o _ _ (ap refusal (same-image-rules b z))
   same-call-refusal b z (try i) = same-rules p o _ _ (ap (λ (rs : List Rule). refusal (rs ++ clerkRules p b i)) (same-image-rules b z))
   same-call-refusal b z settle = same-rules p o _ _ (ap refusal (same-image-rules b z))
+  same-call-refusal b z (list l) = same-rules p o _ _ (ap (λ (rs : List Rule). refusal (rs ++ listRules l)) (same-image-rules b z))
 
   -- Each call on an old image, of any length and content, gives what it gives by OldMeaning.
   pub same-call : (b : Image) → OldImage b → (k : Call) → called p b k ≡ old.called p b k
-  unfolding called old.called
-  same-call b z k = λ i. unlessRefused (same-call-refusal b z k i) b (same-performed b k i)
+  unfolding called old.called unlessRefused
+  same-call b z k = rw (← same-call-refusal b z k) (go (refusal (callRules p b k)) refl)
+    where
+      go : (n : ℕ) → refusal (callRules p b k) ≡ n → unlessRefused n b (performed p b k) ≡ unlessRefused n b (old.performed p b k)
+      go zero e = same-performed b z (call-long p b k e) k
+      go (suc n) e = refl
 
   -- ---- sequences of calls
 
@@ -184,6 +199,9 @@ module _ (p : Plan) (o : OldPlan p) where
   performs-old b _ z e (settling l) = after-old (configurationOf b) _
   performs-old b _ z e (penning t u) = marked-old b _ e z
   performs-old b _ z e (stalling n) = z
+  performs-old b _ z e (completing {l = l} t) =
+      rw (same-configuration b z e, same-replay p o (old.configurationOf b) (entries l)) (written-old p (old.replay p (old.configurationOf b) (entries l)) 0)
+  performs-old b _ z e (stopping t) = z
 
   -- What a call leaves is an old image.
   pub old-image-stays : (b : Image) → OldImage b → (k : Call) → OldImage (called p b k .image)

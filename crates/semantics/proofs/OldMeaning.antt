@@ -1,12 +1,12 @@
 -- The meaning before job 1 of 02, for the theorem that old plans mean what they meant; no call cites it.
 -- Here stand the definitions that moved with job 1, and those over them, with one oracle. What did not move with it is as it stands now: sums stop at the ends
--- (`Wrapping` says where job 2 made them differ), and the ranking is that of job 3 (`OldRanking` says what it kept). The theorem speaks of the oracles.
+-- (`Wrapping` says where job 2 made them differ), the ranking is that of job 3 (`OldRanking` says what it kept), and verdict 1 and lists are those of job 6 (`OldVerdicts`). The theorem speaks of the oracles.
 use Prim.Native.Nat.{ℕ, zero, suc, _+_, _*_}
 use mathlib.Core.Bool.{Bool, not, cond, _&&_, _||_}
 use mathlib.Core.List.{List, [], _∷_, _++_}
 use lib.ListN.{length, getD, take, drop}
 use lib.Dec.{leb, ltb, eqb}
-use Rattle.semantics.specs.Bytes.{byte, u16, u32, leBytes, allOf, implies, every, some-below, lowest, table, bit, mask, withBit}
+use Rattle.semantics.specs.Bytes.{entries, byte, u16, u32, leBytes, allOf, implies, every, some-below, lowest, table, bit, mask, withBit}
 use Rattle.semantics.specs.Signed.{signed}
 use Rattle.semantics.specs.Plan.{Plan, maxComponents, maxVariables, maxInteractions, numberByte, totalLength, components, variables, transitions, interactions, propositions, firstOracle, codeWords, letters, section, below}
 use Rattle.semantics.specs.Code.{State}
@@ -14,7 +14,8 @@ use Rattle.semantics.specs.Refusal.{Rule, rule, refusal}
 use Rattle.semantics.specs.Rules.{within, componentOk, variableOk, transitionOk, interactionOk, rankOk, verdictOk, codeRules}
 use Rattle.semantics.specs.Move.{enabled, outranked, eligible, fired, letter, initialState}
 use Rattle.semantics.specs.Image.{Image, locationsPlace, lastPortsPlace, valuePlace, valueBytes, withMarks, marksOf, locationOk, lastPortOk, valueOk, lengthRule}
-use Rattle.semantics.specs.Calls.{Answer, accepted, offers, committed, cancelled, stalled, penned, Outcome, outcome, unlessRefused, Call, offered, try, settle}
+use Rattle.semantics.specs.Calls.{Answer, accepted, offers, committed, cancelled, stalled, penned, Outcome, outcome, unlessRefused, Call, offered, try, settle, list}
+use Rattle.semantics.specs.Load.{listRules}
 
 -- ---- the plan
 
@@ -111,12 +112,13 @@ after p c i = judged p (c .oracle) (fired p (c .state) i)
 unfoldable pub oracleInRange : Plan → ℕ → Bool
 oracleInRange p q = ltb q (oracleStates p)
 
--- "A state is good when the oracle's new verdict is not 0."
-unfoldable pub oracleGood : Plan → ℕ → Bool
-oracleGood p q = not (eqb (verdict p q) 0)
-
+-- "A state is good when the oracle's new verdict is" 2 or 3.
 unfoldable pub good : Plan → Configuration → Bool
-good p c = oracleGood p (c .oracle)
+good p c = leb 2 (verdict p (c .oracle))
+
+-- Its verdict is not 0.
+unfoldable pub tolerable : Plan → Configuration → Bool
+tolerable p c = leb 1 (verdict p (c .oracle))
 
 -- The move is enabled and ends good.
 unfoldable pub safe : Plan → Configuration → ℕ → Bool
@@ -133,6 +135,27 @@ mayCommit p c i = allOf (safe p c i ∷ not (dominated p c i) ∷ [])
 -- The lowest such move, or I where there is none.
 unfoldable pub safeMove : Plan → Configuration → ℕ
 safeMove p c = lowest (interactions p) (mayCommit p c)
+
+-- The configuration after the listed moves in turn.
+unfoldable pub replay : Plan → Configuration → List ℕ → Configuration
+replay p c [] = c
+replay p c (i ∷ is) = replay p (after p c i) is
+
+-- An entry of a list is allowed.
+unfoldable pub passable : Plan → Configuration → ℕ → Bool
+passable p c i = allOf (enabled p (c .state) i ∷ tolerable p (after p c i) ∷ [])
+
+unfoldable pub entryAllowed : Plan → Configuration → ℕ → Bool
+entryAllowed p c i =
+    allOf (ltb i (interactions p) ∷ passable p c i ∷ not (some-below (interactions p) (λ j. below p i j && passable p c j)) ∷ [])
+
+-- Where a list stops, and whether it completes.
+unfoldable pub stopsAt : Plan → Configuration → List ℕ → ℕ
+stopsAt p c [] = 0
+stopsAt p c (i ∷ is) = cond (entryAllowed p c i) (suc (stopsAt p (after p c i) is)) 0
+
+unfoldable pub completes : Plan → Configuration → List ℕ → Bool
+completes p c is = allOf (eqb (stopsAt p c is) (length is) ∷ good p (replay p c is) ∷ [])
 
 -- "The oracle also reads the starting state's event (000), so a run begins judged."
 unfoldable pub initial : Plan → Configuration
@@ -225,17 +248,25 @@ settled p b =
     (cond (some-below (interactions p) (enabled p (configurationOf b .state)))
     (outcome penned (withMarks b (mask (interactions p) (enabled p (configurationOf b .state))))) (outcome stalled b))
 
--- Each call's refusals, in order: offered and settle 1 to 14, try 1 to 14 and then 16 to 19.
+-- A list is committed whole, or nothing changes.
+unfoldable pub handedIn : Plan → Image → List ℕ → Outcome
+handedIn p b is =
+    cond (completes p (configurationOf b) is) (outcome (committed (length is)) (image p (replay p (configurationOf b) is) 0))
+    (outcome (cancelled (stopsAt p (configurationOf b) is)) b)
+
+-- Each call's refusals, in order: offered and settle 1 to 14, try 1 to 14 and then 16 to 19, a list 1 to 14 and then 22.
 unfoldable pub callRules : Plan → Image → Call → List Rule
 callRules p b offered = planRules p ++ imageRules p b
 callRules p b (try i) = planRules p ++ imageRules p b ++ clerkRules p b i
 callRules p b settle = planRules p ++ imageRules p b
+callRules p b (list l) = planRules p ++ imageRules p b ++ listRules l
 
 -- What a call does that is not refused.
 unfoldable pub performed : Plan → Image → Call → Outcome
 performed p b offered = outcome (offers (offeredMask p b)) b
 performed p b (try i) = tried p b i
 performed p b settle = settled p b
+performed p b (list l) = handedIn p b (entries l)
 
 unfoldable pub called : Plan → Image → Call → Outcome
 called p b k = unlessRefused (refusal (callRules p b k)) b (performed p b k)

@@ -7,13 +7,14 @@ use native.Mathlib.Omega.{arith}
 use mathlib.Core.Bool.{true, not, _&&_, and-true}
 use mathlib.Core.List.{List, [], _∷_, _++_}
 use lib.ListN.{length, getD}
-use lib.Dec.{eqb}
+use lib.Dec.{ltb, eqb}
 use Rattle.semantics.specs.Bytes.{byte, leBytes, allOf, every, some-below, lowest}
 use Rattle.semantics.specs.Plan.{Plan, maxOracles, totalLength, interactions, addedOracles, oracleStates, letters, section, statesBefore, sectionSize, sectionStart, below, verdict, next}
 use Rattle.semantics.specs.Code.{State}
 use Rattle.semantics.specs.Refusal.{Rule, unless, refusal}
 use Rattle.semantics.specs.Rules.{headOk, stateCountOk, oracleCountsOk, countsOk, layoutOk, verdictOk, followerOk, oracleOk, tableOk, planRules, planRefusal}
-use Rattle.semantics.specs.Move.{Configuration, fired, letter, nextStates, judged, after, initialState, lowestVerdict, oraclesGood, good, safe, dominated, mayCommit, safeMove, initial}
+use Rattle.semantics.specs.Move.{Configuration, enabled, fired, letter, nextStates, judged, after, initialState, lowestVerdict, reaches, good, tolerable, leads, leadsAbove, safe, dominated, mayCommit, safeMove, replay, initial}
+use Rattle.semantics.specs.Load.{passable, blocked, entryAllowed, stopsAt, completes}
 use Rattle.semantics.specs.Sample.{joined, places, sections, counts, offsets, written, scale, sample}
 use Rattle.semantics.proofs.Basics.{eqb-true, every-at}
 use Rattle.semantics.proofs.OldMeaning as old
@@ -154,8 +155,13 @@ module _ (p : Plan) (o : OldPlan p) where
 
   -- Good: the lowest verdict is the first oracle's.
   pub same-good : (c : Configuration) → good p c ≡ old.good p (asOld c)
-  unfolding good oraclesGood lowestVerdict old.good old.oracleGood
+  unfolding good reaches lowestVerdict old.good
   same-good c = rw (none-added p o, same-verdict p (getD (c .oracles) 0 0))
+
+  -- The same of a verdict that is not 0.
+  pub same-tolerable : (c : Configuration) → tolerable p c ≡ old.tolerable p (asOld c)
+  unfolding tolerable reaches lowestVerdict old.tolerable
+  same-tolerable c = rw (none-added p o, same-verdict p (getD (c .oracles) 0 0))
 
   -- A move ends good.
   pub same-good-after : (c : Configuration) (i : ℕ) → good p (after p c i) ≡ old.good p (old.after p (asOld c) i)
@@ -163,15 +169,46 @@ module _ (p : Plan) (o : OldPlan p) where
 
   -- A move is enabled and ends good.
   pub same-safe : (c : Configuration) (i : ℕ) → safe p c i ≡ old.safe p (asOld c) i
-  unfolding safe old.safe
-  same-safe c i = rw (same-good-after c i)
+  unfolding safe leads good old.safe
+  same-safe c i = λ k. allOf (enabled p (c .state) i ∷ same-good-after c i k ∷ [])
 
   -- A move may be committed.
   pub same-mayCommit : (c : Configuration) (i : ℕ) → mayCommit p c i ≡ old.mayCommit p (asOld c) i
-  unfolding mayCommit old.mayCommit dominated old.dominated
+  unfolding mayCommit old.mayCommit dominated leadsAbove safe old.dominated
   same-mayCommit c i = λ k. allOf (same-safe c i k ∷ not (some-below (interactions p) (λ j. below p i j && same-safe c j k)) ∷ [])
 
   -- The move that settling commits.
   pub same-safeMove : (c : Configuration) → safeMove p c ≡ old.safeMove p (asOld c)
   unfolding safeMove old.safeMove
   same-safeMove c = λ i. lowest (interactions p) (λ k. same-mayCommit c k i)
+
+  -- ---- a list
+
+  -- A move is enabled and its verdict is not 0.
+  pub same-passable : (c : Configuration) (i : ℕ) → passable p c i ≡ old.passable p (asOld c) i
+  unfolding passable leads tolerable old.passable
+  same-passable c i =
+      λ k. allOf (enabled p (c .state) i ∷ (same-tolerable (after p c i) ∙ ap (λ (d : Configuration). old.tolerable p (asOld d)) (same-after c i)) k ∷ [])
+
+  -- An entry is allowed.
+  pub same-entry : (c : Configuration) (i : ℕ) → entryAllowed p c i ≡ old.entryAllowed p (asOld c) i
+  unfolding entryAllowed blocked leadsAbove passable old.entryAllowed
+  same-entry c i =
+      λ k. allOf (ltb i (interactions p) ∷ same-passable c i k ∷ not (some-below (interactions p) (λ j. below p i j && same-passable c j k)) ∷ [])
+
+  -- Where a list stops.
+  pub same-stops : (c : Configuration) (is : List ℕ) → stopsAt p c is ≡ old.stopsAt p (asOld c) is
+  unfolding stopsAt old.stopsAt
+  same-stops c [] = refl
+  same-stops c (i ∷ is) = rw (same-entry c i, same-stops (after p c i) is, same-after c i)
+
+  -- The configuration after several moves.
+  pub same-replay : (c : old.Configuration) (is : List ℕ) → replay p (asNow c) is ≡ asNow (old.replay p c is)
+  unfolding replay old.replay
+  same-replay c [] = refl
+  same-replay c (i ∷ is) = ap (λ (d : Configuration). replay p d is) (same-after (asNow c) i) ∙ same-replay (old.after p c i) is
+
+  -- A list completes.
+  pub same-completes : (c : old.Configuration) (is : List ℕ) → completes p (asNow c) is ≡ old.completes p c is
+  unfolding completes old.completes
+  same-completes c is = rw (same-stops (asNow c) is, same-replay c is, same-good (asNow (old.replay p c is)))

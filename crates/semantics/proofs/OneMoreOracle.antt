@@ -3,16 +3,16 @@ use mathlib.Core.Path.{_≡_, refl, sym, ap, ap₂, _∙_}
 use Prim.Native.Nat.{ℕ, zero, suc, _+_, _^_, _≤_, _<_}
 use native.Mathlib.Nat.{le-of-suc-le-suc}
 use native.Mathlib.Omega.{arith}
-use mathlib.Core.Bool.{true, false, not}
+use mathlib.Core.Bool.{true, false}
 use mathlib.Core.List.{List}
 use lib.ListN.{getD}
-use lib.Dec.{eqb}
+use lib.Dec.{leb}
 use Rattle.semantics.specs.Plan.{Plan, maxOracles, interactions, letters, oracles, oracleStates, statesBefore, startStates, sectionSize, oracleAt, verdict, next}
 use Rattle.semantics.specs.Rules.{planRefusal}
 use Rattle.semantics.specs.Move.{Configuration, enabled, fired, letter, judged, after, oraclesInRange, good, safe, initialState, initial}
 use Rattle.semantics.proofs.Basics.{bool-cases, absurd-bool, every-at, every-all}
 use Rattle.semantics.proofs.AcceptedPlan.{accepted-plan, counts-of}
-use Rattle.semantics.proofs.Oracles.{states-end, range-at, range-lt, used-reads, next-states-in-range, start-in-range, good-exactly}
+use Rattle.semantics.proofs.Oracles.{states-end, range-at, range-lt, used-reads, next-states-in-range, start-in-range, reaches-exactly}
 use Rattle.semantics.proofs.Ranking.{safe-enabled, safe-good, safe-from}
 use Rattle.semantics.proofs.SameTables.{OneMore, Alike, same-byte, row, same-propositions, same-first-states, same-first-oracle, same-enabled, same-move, same-letter, same-initial}
 use Rattle.semantics.proofs.Sound.{letter-lt, sound-initial}
@@ -80,13 +80,13 @@ module _ (p p' : Plan) (m : OneMore p p') (z : planRefusal p ≡ 0) where
   shared-good : (c c' : Configuration) → SameShared p c c' → oraclesInRange p (c .oracles) ≡ true → good p' c' ≡ true → good p c ≡ true
   unfolding good
   shared-good c c' s r g =
-      good-exactly p (c .oracles)
-      ∙ every-all (oracles p) (λ n. not (eqb (verdict p n (getD (c .oracles) n 0)) 0))
+      reaches-exactly p 2 (c .oracles)
+      ∙ every-all (oracles p) (λ n. leb 2 (verdict p n (getD (c .oracles) n 0)))
       (λ n l.
       let q = getD (c .oracles) n 0 in
       let same : verdict p' n (getD (c' .oracles) n 0) ≡ verdict p n q
       = ap (verdict p' n) (s .same-oracles n l) ∙ same-verdict n q l (range-lt p n q l (range-at p (c .oracles) r n (omega (arith, few)))) in
-      rw same at (every-at (oracles p') (λ n. not (eqb (verdict p' n (getD (c' .oracles) n 0)) 0)) (sym (good-exactly p' (c' .oracles)) ∙ g) n
+      rw same at (every-at (oracles p') (λ n. leb 2 (verdict p' n (getD (c' .oracles) n 0))) (sym (reaches-exactly p' 2 (c' .oracles)) ∙ g) n
       (omega (arith, m .one-more))))
 
   -- ---- one move

@@ -1,18 +1,19 @@
 -- The oracles of a plan (02, job 1): their tables, numbers and bytes, their states in range, read together, and the lowest of their verdicts.
 use mathlib.Core.Path.{_≡_, refl, sym, ap, _∙_, subst}
+use mathlib.Core.Logic.{_↔_}
 use Prim.Native.Nat.{ℕ, zero, suc, min, _+_, _≤_, _<_, suc-le-suc}
 use native.Mathlib.Nat.{le-refl, le-of-suc-le-suc}
 use native.Mathlib.Omega.{arith}
-use mathlib.Core.Bool.{Bool, true, not, cond, _&&_, _||_, and-true}
+use mathlib.Core.Bool.{Bool, true, false, cond, _&&_, _||_, and-true}
 use mathlib.Core.List.{List, [], _∷_}
 use lib.ListN.{length, getD}
 use lib.Dec.{leb, ltb, eqb}
 use Rattle.semantics.specs.Bytes.{byte, u32, allOf, every, table}
 use Rattle.semantics.specs.Plan.{Plan, maxOracles, firstOracle, addedOracles, oracles, oracleStates, startStates, statesBefore, letters, oracleAt, verdict, next}
 use Rattle.semantics.specs.Rules.{within, stateCountOk, oracleCountsOk, followerOk, oracleOk, planRules}
-use Rattle.semantics.specs.Move.{nextStates, stateInRange, oraclesInRange, lowestVerdict, oraclesGood}
+use Rattle.semantics.specs.Move.{Configuration, nextStates, stateInRange, oraclesInRange, lowestVerdict, reaches, good, tolerable}
 use Rattle.semantics.specs.Image.{Image, head, oracleByte, headMatches}
-use Rattle.semantics.proofs.Basics.{bool-cases, absurd-bool, not-yes, or-left, or-right, or-no, same-test, each, all-of, leb-true, le-leb, ltb-true, ltb-false, lt-ltb, le-ltb, eqb-true, eq-eqb, ne-eqb, eqb-false, every-at, every-all, every-same, below-suc, length-table, getD-table, zeros-at}
+use Rattle.semantics.proofs.Basics.{bool-cases, absurd-bool, or-left, or-right, or-no, same-test, each, all-of, leb-true, le-leb, ltb-true, ltb-false, lt-ltb, le-ltb, eqb-true, eq-eqb, every-at, every-all, every-same, below-suc, length-table, getD-table, zeros-at}
 use Rattle.semantics.proofs.RuleLists.{numbers}
 use Rattle.semantics.proofs.AcceptedPlan.{Accepted, Counts, counts-of}
 
@@ -204,15 +205,47 @@ lowest-of-some p qs (suc m) =
     (λ t. let u = ltb-true (lowestVerdict p qs m) v t in (k, omega (arith, l), e ∙ omega (arith, u)))
     (λ t. let u = ltb-false (lowestVerdict p qs m) v t in (suc m, le-refl (suc m), omega (arith, u)))
 
--- so it is bad exactly where some oracle's verdict is
-pub good-exactly : (p : Plan) (qs : List ℕ) → oraclesGood p qs ≡ every (oracles p) (λ n. not (eqb (verdict p n (getD qs n 0)) 0))
-unfolding oraclesGood
-good-exactly p qs =
+-- so it is v or more exactly where every oracle's verdict is
+pub reaches-exactly : (p : Plan) (v : ℕ) (qs : List ℕ) → reaches p v qs ≡ every (oracles p) (λ n. leb v (verdict p n (getD qs n 0)))
+unfolding reaches
+reaches-exactly p v qs =
     same-test _ _
-    (λ g. every-all (oracles p) (λ n. not (eqb (verdict p n (getD qs n 0)) 0))
-    (λ n l. ap not (ne-eqb _ _ (λ z. eqb-false _ _ (not-yes _ g) (none n l z)))))
+    (λ g. every-all (oracles p) (λ n. leb v (verdict p n (getD qs n 0)))
+    (λ n l. let low = leb-true v _ g in
+    let i = lowest-at-most p qs (addedOracles p) n (le-of-suc-le-suc l) in
+    le-leb v _ (omega (arith, low, i))))
     (λ a. let (k, l, e) = lowest-of-some p qs (addedOracles p) in
-    ap not (ne-eqb _ _ (λ z. eqb-false _ _ (not-yes _ (every-at (oracles p) (λ n. not (eqb (verdict p n (getD qs n 0)) 0)) a k (suc-le-suc l))) (e ∙ z))))
-  where
-    none : (n : ℕ) → n < oracles p → verdict p n (getD qs n 0) ≡ 0 → lowestVerdict p qs (addedOracles p) ≡ 0
-    none n l z = let i = lowest-at-most p qs (addedOracles p) n (le-of-suc-le-suc l) in omega (arith, i, z)
+    le-leb v _ (subst (λ (w : ℕ). v ≤ w) e (leb-true v _ (every-at (oracles p) (λ n. leb v (verdict p n (getD qs n 0))) a k (suc-le-suc l)))))
+
+-- ---- the verdict of a configuration
+
+module _ (p : Plan) (c : Configuration) where
+  -- the verdict of a configuration, of all its oracles
+  abbrev pub verdictOf : ℕ
+  verdictOf = lowestVerdict p (c .oracles) (addedOracles p)
+
+  -- "only verdicts 2 and 3 are good"
+  pub good-verdict : good p c ≡ true ↔ 2 ≤ verdictOf
+  unfolding good reaches
+  good-verdict = (leb-true 2 verdictOf, le-leb 2 verdictOf)
+
+  -- "its verdict is not 0"
+  pub tolerable-verdict : tolerable p c ≡ true ↔ (verdictOf ≡ 0 → ⊥)
+  unfolding tolerable reaches
+  tolerable-verdict = (
+    (λ t z. let l = leb-true 1 verdictOf t in absurd (omega (arith, l, z))),
+    (λ f. le-leb 1 verdictOf (omega (arith, f))),
+  )
+
+  -- what is good is tolerable
+  pub good-tolerable : good p c ≡ true → tolerable p c ≡ true
+  good-tolerable g = tolerable-verdict .1 (λ z. let l = good-verdict .0 g in omega (arith, l, z))
+
+  -- and what is tolerable is good, or its verdict is 1
+  pub tolerable-one : tolerable p c ≡ true → good p c ≡ false → verdictOf ≡ 1
+  tolerable-one t g =
+      let below : 2 ≤ verdictOf → ⊥ = λ l. absurd-bool (good-verdict .1 l) g in
+      omega (arith, tolerable-verdict .0 t, below)
+
+  pub one-tolerable : verdictOf ≡ 1 → tolerable p c ≡ true
+  one-tolerable e = tolerable-verdict .1 (λ z. omega (arith, e, z))

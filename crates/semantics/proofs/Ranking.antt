@@ -1,4 +1,4 @@
--- Laws of the ranking: outranked and eligible, by the marks; safe and dominated, the moves that may be committed. Elsewhere these laws are cited, and the
+-- Laws of the ranking: outranked and eligible, by the marks; moves that lead to a verdict or a better one, safe and dominated among them, those that may be committed. Elsewhere these laws are cited, and the
 -- definitions are not opened.
 use mathlib.Core.Path.{_≡_, sym, ap, _∙_}
 use mathlib.Core.Logic.{_↔_}
@@ -9,7 +9,7 @@ use lib.Dec.{ltb}
 use Rattle.semantics.specs.Bytes.{allOf, some-below, lowest, bit}
 use Rattle.semantics.specs.Plan.{Plan, interactions, below}
 use Rattle.semantics.specs.Code.{State}
-use Rattle.semantics.specs.Move.{Configuration, enabled, outranked, eligible, after, good, safe, dominated, mayCommit, safeMove}
+use Rattle.semantics.specs.Move.{Configuration, enabled, outranked, eligible, after, reaches, good, leads, leadsAbove, safe, dominated, mayCommit, safeMove}
 use Rattle.semantics.proofs.Basics.{same-test, bool-cases, absurd-bool, not-yes, and-both, both-and, some-found, some-has, each, all-of, lowest-is, lowest-unique, lowest-none}
 
 -- ---- outranked, by the marks
@@ -79,20 +79,48 @@ module _ (p : Plan) (s : State) (f g : ℕ → Bool) (h : (j : ℕ) → j < inte
   unfolding eligible
   eligible-same = ap (λ (o : Bool). allOf (enabled p s i ∷ not o ∷ [])) outranked-same
 
+-- ---- moves that lead to a verdict of v or more
+
+module _ (p : Plan) (v : ℕ) (c : Configuration) where
+  pub leads-enabled : (i : ℕ) → leads p v c i ≡ true → enabled p (c .state) i ≡ true
+  unfolding leads
+  leads-enabled i e = let (on, _) = each _ e in on
+
+  pub leads-reaches : (i : ℕ) → leads p v c i ≡ true → reaches p v (after p c i .oracles) ≡ true
+  unfolding leads
+  leads-reaches i e = let (_, (r, _)) = each _ e in r
+
+  pub leads-from : (i : ℕ) → enabled p (c .state) i ≡ true → reaches p v (after p c i .oracles) ≡ true → leads p v c i ≡ true
+  unfolding leads
+  leads-from i on r = all-of _ (on, (r, tt))
+
+  -- one lies above exactly where an enabled one above reaches v
+  pub leads-above-exactly : (i : ℕ)
+      → leadsAbove p v c i ≡ true
+      ↔ ((j : ℕ) × (j < interactions p) × (below p i j ≡ true) × (enabled p (c .state) j ≡ true) × (reaches p v (after p c j .oracles) ≡ true))
+  unfolding leadsAbove
+  leads-above-exactly i = (
+    (λ e.
+        let (j, l, t) = some-found (interactions p) (λ j. below p i j && leads p v c j) e in
+        let (b, m) = and-both (below p i j) (leads p v c j) t in
+        (j, l, b, leads-enabled j m, leads-reaches j m)),
+    (λ (j, l, b, on, r). some-has (interactions p) (λ k. below p i k && leads p v c k) j l (both-and b (leads-from j on r))),
+  )
+
 -- ---- what the monitor lets be done, and its ranking
 
 module _ (p : Plan) (c : Configuration) (i : ℕ) where
   pub safe-enabled : safe p c i ≡ true → enabled p (c .state) i ≡ true
   unfolding safe
-  safe-enabled e = let (on, _) = each _ e in on
+  safe-enabled = leads-enabled p 2 c i
 
   pub safe-good : safe p c i ≡ true → good p (after p c i) ≡ true
-  unfolding safe
-  safe-good e = let (_, (g, _)) = each _ e in g
+  unfolding safe good
+  safe-good = leads-reaches p 2 c i
 
   pub safe-from : enabled p (c .state) i ≡ true → good p (after p c i) ≡ true → safe p c i ≡ true
-  unfolding safe
-  safe-from e g = all-of _ (e, (g, tt))
+  unfolding safe good
+  safe-from = leads-from p 2 c i
 
   -- an enabled move that is not safe ends bad
   pub unsafe-bad : enabled p (c .state) i ≡ true → safe p c i ≡ false → good p (after p c i) ≡ false
@@ -100,23 +128,8 @@ module _ (p : Plan) (c : Configuration) (i : ℕ) where
 
   -- "an enabled good move above is what outranks", and nothing else
   pub dominated-exactly : dominated p c i ≡ true ↔ ((j : ℕ) × (j < interactions p) × (below p i j ≡ true) × (enabled p (c .state) j ≡ true) × (good p (after p c j) ≡ true))
-  unfolding dominated
-  dominated-exactly = (
-    (λ e.
-        let (j, l, t) = some-found (interactions p) (λ j. below p i j && safe p c j) e in
-        let (b, m) = and-both (below p i j) (safe p c j) t in
-        (j, l, b, enabled-by j m, good-by j m)),
-    (λ (j, l, b, on, g). some-has (interactions p) (λ k. below p i k && safe p c k) j l (both-and b (safe-by j on g))),
-  )
-    where
-      enabled-by : (j : ℕ) → safe p c j ≡ true → enabled p (c .state) j ≡ true
-      enabled-by j m = unfold safe in (each _ m .0)
-
-      good-by : (j : ℕ) → safe p c j ≡ true → good p (after p c j) ≡ true
-      good-by j m = unfold safe in (each _ m .1 .0)
-
-      safe-by : (j : ℕ) → enabled p (c .state) j ≡ true → good p (after p c j) ≡ true → safe p c j ≡ true
-      safe-by j e g = unfold safe in (all-of _ (e, (g, tt)))
+  unfolding dominated good
+  dominated-exactly = leads-above-exactly p 2 c i
 
 module _ (p : Plan) (c : Configuration) (i : ℕ) where
   commit-safe : mayCommit p c i ≡ true → safe p c i ≡ true

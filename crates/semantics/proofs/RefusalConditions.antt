@@ -1,21 +1,24 @@
 -- The exact condition of each refusal number, 01 "Who causes which number": its own rule is broken and each rule before it is kept.
 -- First what the law of a list of rules (RuleLists) says of each call; then the numbers, one theorem each. The order is that of the list.
 use mathlib.Core.Path.{_≡_, refl, sym, ap, _∙_}
-use mathlib.Core.Logic.{_↔_, _≢_, Iff·rfl, Iff·trans, Iff·and}
-use Prim.Native.Nat.{ℕ, zero, suc, _%_, _≤_}
+use mathlib.Core.Logic.{_↔_, _⊎_, inl, inr, _≢_, Iff·rfl, Iff·trans, Iff·and}
+use Prim.Native.Nat.{ℕ, zero, suc, _%_, _≤_, _<_}
 use native.Mathlib.Nat.{suc-ne-zero}
+use native.Mathlib.Omega.{arith}
 use mathlib.Core.Bool.{Bool, true, false, not, false≢true}
 use mathlib.Core.List.{List, [], _∷_, _++_}
 use lib.ListN.{length}
-use Rattle.semantics.specs.Bytes.{every, bit}
+use lib.Dec.{leb, ltb, eqb}
+use Rattle.semantics.specs.Bytes.{entries, allOf, every, bit}
 use Rattle.semantics.specs.Plan.{Plan, components, variables, transitions, interactions, addedOracles}
 use Rattle.semantics.specs.Refusal.{Rule, rule, refusal}
 use Rattle.semantics.specs.Rules.{headOk, countsOk, layoutOk, componentOk, variableOk, transitionOk, interactionOk, rankOk, tableOk, codeOk, planRules}
 use Rattle.semantics.specs.Move.{enabled, outranked, good, initial}
 use Rattle.semantics.specs.Image.{Image, imageLength, image, marksOf, configurationOf, headMatches, configurationOk, marksOk, lengthRule, imageRules}
-use Rattle.semantics.specs.Calls.{Answer, accepted, refused, Outcome, outcome, unlessRefused, check, startRules, start, clerkRules, Call, offered, try, settle, callRules, performed, called}
-use Rattle.semantics.specs.Log.{Log, entries, walked, logRules, checkLog}
-use Rattle.semantics.proofs.Basics.{absurd-bool, not-no, ltb-false, le-ltb, eqb-false, ne-eqb}
+use Rattle.semantics.specs.Calls.{Answer, accepted, refused, Outcome, outcome, unlessRefused, check, startRules, start, clerkRules, Call, offered, try, settle, list, callRules, performed, called}
+use Rattle.semantics.specs.Load.{maxMoves, listRules}
+use Rattle.semantics.specs.Log.{Log, walked, logRules, checkLog}
+use Rattle.semantics.proofs.Basics.{bool-cases, absurd-bool, not-no, each, all-of, leb-false, lt-leb, ltb-false, le-ltb, eqb-false, ne-eqb}
 use Rattle.semantics.proofs.Refusing.{numbered}
 use Rattle.semantics.proofs.Counting.{among}
 use Rattle.semantics.proofs.RuleLists.{Kept, before, keeps, Exactly, numbers, distinct, broken-among, no-rule-0, refusal-exactly, exactly-append, among-append}
@@ -24,7 +27,7 @@ use Rattle.semantics.proofs.LogWalk.{walk-not-refused}
 
 -- ---- the calls
 
--- The six calls: check lends no image, start one that it overwrites, offered, try and settle one that was started; the check of a log lends the log and no image.
+-- The calls: check lends no image, start one that it overwrites, offered, try, settle and a list one that was started; the check of a log lends the log and no image.
 pub data AnyCall : Type 0 where
   checking : AnyCall
   starting : Image → AnyCall
@@ -44,7 +47,7 @@ rulesOf p (starting b) = startRules p b
 rulesOf p (calling b k) = callRules p b k
 rulesOf p (logging l) = logRules p l
 
--- The numbers that a call can give, in the order of its list: the plan's, and after them those of a start, of the image, of the clerk, of a log.
+-- The numbers that a call can give, in the order of its list: the plan's, and after them those of a start, of the image, of the clerk, of a log, of a list.
 abbrev pub planNumbers : List ℕ
 planNumbers = 1 ∷ 2 ∷ 3 ∷ 4 ∷ 5 ∷ 6 ∷ 7 ∷ 8 ∷ 9 ∷ 20 ∷ 10 ∷ []
 
@@ -62,6 +65,10 @@ clerkNumbers = 16 ∷ 17 ∷ 18 ∷ 19 ∷ []
 abbrev pub logNumbers : List ℕ
 logNumbers = 21 ∷ 15 ∷ []
 
+-- 02, job 6: "22 ..; it is tested after 14."
+abbrev pub listNumbers : List ℕ
+listNumbers = 22 ∷ []
+
 -- .. and those of each call.
 abbrev pub numbersOf : AnyCall → List ℕ
 numbersOf checking = planNumbers
@@ -69,25 +76,28 @@ numbersOf (starting b) = planNumbers ++ startNumbers
 numbersOf (calling b offered) = planNumbers ++ imageNumbers
 numbersOf (calling b (try i)) = planNumbers ++ imageNumbers ++ clerkNumbers
 numbersOf (calling b settle) = planNumbers ++ imageNumbers
+numbersOf (calling b (list l)) = planNumbers ++ imageNumbers ++ listNumbers
 numbersOf (logging l) = planNumbers ++ logNumbers
 
 -- Each rule of a call has a number of its own, and none has 0.
 pub distinct-numbers : (p : Plan) (q : AnyCall) → distinct (rulesOf p q) ≡ true
-unfolding distinct planRules lengthRule imageRules clerkRules startRules callRules logRules
+unfolding distinct planRules lengthRule imageRules clerkRules listRules startRules callRules logRules
 distinct-numbers p checking = refl
 distinct-numbers p (starting b) = refl
 distinct-numbers p (calling b offered) = refl
 distinct-numbers p (calling b (try i)) = refl
 distinct-numbers p (calling b settle) = refl
+distinct-numbers p (calling b (list l)) = refl
 distinct-numbers p (logging l) = refl
 
 pub all-numbered : (p : Plan) (q : AnyCall) → numbered (rulesOf p q) ≡ true
-unfolding numbered planRules lengthRule imageRules clerkRules startRules callRules logRules
+unfolding numbered planRules lengthRule imageRules clerkRules listRules startRules callRules logRules
 all-numbered p checking = refl
 all-numbered p (starting b) = refl
 all-numbered p (calling b offered) = refl
 all-numbered p (calling b (try i)) = refl
 all-numbered p (calling b settle) = refl
+all-numbered p (calling b (list l)) = refl
 all-numbered p (logging l) = refl
 
 refused-number : (m n : ℕ) (b : Image) (o : Outcome) → ¬ Refused (o .answer) → unlessRefused m b o .answer ≡ refused (suc n) ↔ m ≡ suc n
@@ -135,13 +145,14 @@ refuses p (starting b) n = start-refuses p b n
 refuses p (calling b k) n = call-refuses p b k n
 refuses p (logging l) n = log-refuses p l n
 
--- For the numbers of the plan the condition is the same for all six calls; for those of the image it is the same for offered, try and settle.
+-- For the numbers of the plan the condition is the same for all calls; for those of the image it is the same for offered, try, settle and a list.
 same-by-call : (p : Plan) (b : Image) (k : Call) (n : ℕ)
     → among n (planNumbers ++ imageNumbers) ≡ true → Exactly n (callRules p b k) ≡ Exactly n (planRules p ++ imageRules p b)
 unfolding planRules lengthRule imageRules callRules
 same-by-call p b offered n h = refl
 same-by-call p b (try i) n h = exactly-append n (planRules p ++ imageRules p b) (clerkRules p b i) h
 same-by-call p b settle n h = refl
+same-by-call p b (list l) n h = exactly-append n (planRules p ++ imageRules p b) (listRules l) h
 
 same-by-any : (p : Plan) (q : AnyCall) (n : ℕ) → among n planNumbers ≡ true → Exactly n (rulesOf p q) ≡ Exactly n (planRules p)
 unfolding planRules startRules logRules
@@ -172,12 +183,13 @@ pub gives : (p : Plan) (q : AnyCall) (n : ℕ) → answerTo p q ≡ refused n �
 gives p q n e = broken-among n (rulesOf p q) (refuses p q n .0 e .1)
 
 pub gives-own : (p : Plan) (q : AnyCall) (n : ℕ) → answerTo p q ≡ refused n → among n (numbersOf q) ≡ true
-unfolding planRules lengthRule imageRules clerkRules startRules callRules logRules
+unfolding planRules lengthRule imageRules clerkRules listRules startRules callRules logRules
 gives-own p checking n = gives p checking n
 gives-own p (starting b) n = gives p (starting b) n
 gives-own p (calling b offered) n = gives p (calling b offered) n
 gives-own p (calling b (try i)) n = gives p (calling b (try i)) n
 gives-own p (calling b settle) n = gives p (calling b settle) n
+gives-own p (calling b (list l)) n = gives p (calling b (list l)) n
 gives-own p (logging l) n = gives p (logging l) n
 
 pub check-gives : (p : Plan) (n : ℕ) → check p ≡ refused n → among n planNumbers ≡ true
@@ -196,10 +208,14 @@ pub try-gives : (p : Plan) (b : Image) (i n : ℕ) → called p b (try i) .answe
     → among n (planNumbers ++ imageNumbers ++ clerkNumbers) ≡ true
 try-gives p b i n = gives-own p (calling b (try i)) n
 
+pub list-gives : (p : Plan) (b : Image) (l : List ℕ) (n : ℕ) → called p b (list l) .answer ≡ refused n
+    → among n (planNumbers ++ imageNumbers ++ listNumbers) ≡ true
+list-gives p b l n = gives-own p (calling b (list l)) n
+
 pub log-gives : (p : Plan) (l : Log) (n : ℕ) → checkLog p l ≡ refused n → among n (planNumbers ++ logNumbers) ≡ true
 log-gives p l n = gives-own p (logging l) n
 
--- ---- the planner, 1 to 10 and 20: check, start, offered, try, settle and the check of a log alike. From 4 on, `before n` names the rules that stand before rule n at once.
+-- ---- the planner, 1 to 10 and 20: check, start, offered, try, settle, a list and the check of a log alike. From 4 on, `before n` names the rules that stand before rule n at once.
 
 -- 1: "fewer than 48 bytes, wrong letters, or bytes" 46 and 47 "not zero".
 pub refusal-1 : (p : Plan) (q : AnyCall) → answerTo p q ≡ refused 1 ↔ headOk p ≡ false
@@ -239,7 +255,7 @@ pub refusal-8 : (p : Plan) (q : AnyCall) → answerTo p q ≡ refused 8 ↔ Kept
 unfolding keeps planRules
 refusal-8 p q = plan-refuses p q 8 refl
 
--- 9: "a verdict other than 0, 2, 3, a next state at or above S, a bad state with a follower that is not bad, a 3 state
+-- 9: "a verdict other than 0, 2, 3", where 02, job 6, lets 1 be too, "a next state at or above S, a bad state with a follower that is not bad, a 3 state
 -- with a follower that is not 3".
 pub refusal-9 : (p : Plan) (q : AnyCall) → answerTo p q ≡ refused 9 ↔ Kept (before 9 (planRules p)) × (tableOk p 0 ≡ false)
 unfolding keeps planRules
@@ -256,7 +272,7 @@ pub refusal-10 : (p : Plan) (q : AnyCall) → answerTo p q ≡ refused 10 ↔ Ke
 unfolding keeps planRules
 refusal-10 p q = plan-refuses p q 10 refl
 
--- ---- the caller's programmer, 11: start, offered, try and settle
+-- ---- the caller's programmer, 11: start, offered, try, settle and a list
 
 -- 11: "the image slice is not 312 bytes", and the plan is accepted.
 abbrev pub WrongLength : Plan → Image → Type 0
@@ -269,7 +285,7 @@ refusal-11 p b =
     let differs = Iff·and Iff·rfl (eqb-false (length b) imageLength, ne-eqb (length b) imageLength) in
     (Iff·trans (start-refuses p b 11) differs, λ k. Iff·trans (image-refuses p b k 11 refl) differs)
 
--- ---- the keeper of the image, 12 to 14: offered, try and settle
+-- ---- the keeper of the image, 12 to 14: offered, try, settle and a list
 
 -- 12: "bytes 0–7 or" 12–15 "do not match form 1 and the plan".
 pub refusal-12 : (p : Plan) (b : Image) (k : Call)
@@ -301,11 +317,12 @@ pub log-refusal-15 : (p : Plan) (l : Log) → checkLog p l ≡ refused 15 ↔ Ke
 unfolding keeps planRules logRules
 log-refusal-15 p l = log-refuses p l 15
 
--- Offered, try and settle never give it.
+-- Offered, try, settle and a list never give it.
 pub calls-give-no-15 : (p : Plan) (b : Image) (k : Call) → called p b k .answer ≢ refused 15
 calls-give-no-15 p b offered e = false≢true (offered-gives p b 15 e)
 calls-give-no-15 p b (try i) e = false≢true (try-gives p b i 15 e)
 calls-give-no-15 p b settle e = false≢true (settle-gives p b 15 e)
+calls-give-no-15 p b (list l) e = false≢true (list-gives p b l 15 e)
 
 -- ---- the clerk, 16 to 19: try
 
@@ -335,3 +352,38 @@ pub refusal-19 : (p : Plan) (b : Image) (i : ℕ)
     → called p b (try i) .answer ≡ refused 19 ↔ Kept (before 19 (callRules p b (try i))) × (bit (marksOf b) i ≡ true)
 unfolding keeps planRules imageRules lengthRule clerkRules callRules
 refusal-19 p b i = Iff·trans (call-refuses p b (try i) 19) (Iff·and Iff·rfl (broken-not (bit (marksOf b) i)))
+
+-- ---- the clerk, 22: a list
+
+-- "the list is empty, odd in bytes, or longer than 8 moves"
+abbrev pub BadList : List ℕ → Type 0
+BadList l = (length l ≡ 0) ⊎ (length l % 2 ≢ 0) ⊎ (maxMoves < length (entries l))
+
+list-broken : (l : List ℕ) → allOf (ltb 0 (length l) ∷ eqb (length l % 2) 0 ∷ leb (length (entries l)) maxMoves ∷ []) ≡ false ↔ BadList l
+list-broken l = (
+  (λ e.
+      bool-cases (ltb 0 (length l))
+      (λ a. bool-cases (eqb (length l % 2) 0)
+      (λ c. bool-cases (leb (length (entries l)) maxMoves) (λ d. absurd-bool (all-of _ (a, (c, (d, tt)))) e) (λ d. inr (inr (leb-false _ _ d))))
+      (λ c. inr (inl (eqb-false _ _ c))))
+      (λ a. inl (empty (length l) (ltb-false _ _ a)))),
+  from,
+)
+  where
+    empty : (n : ℕ) → n ≤ 0 → n ≡ 0
+    empty n h = omega arith
+
+    broken : (a b c : Bool) → (a ≡ false) ⊎ (b ≡ false) ⊎ (c ≡ false) → allOf (a ∷ b ∷ c ∷ []) ≡ false
+    broken a b c h =
+        bool-cases (allOf (a ∷ b ∷ c ∷ []))
+        (λ t. let (x, (y, (z, _))) = each _ t in elim h [ inl u ↦ absurd-bool x u | inr v ↦ elim v [ inl u ↦ absurd-bool y u | inr u ↦ absurd-bool z u ] ]) (λ t. t)
+
+    from : BadList l → allOf (ltb 0 (length l) ∷ eqb (length l % 2) 0 ∷ leb (length (entries l)) maxMoves ∷ []) ≡ false
+    from (inl z) = broken _ _ _ (inl (ap (ltb 0) z))
+    from (inr (inl o)) = broken _ _ _ (inr (inl (ne-eqb _ _ o)))
+    from (inr (inr m)) = broken _ _ _ (inr (inr (lt-leb _ _ m)))
+
+-- 22 (02, job 6): "when the list is empty, odd in bytes, or longer than 8 moves; it is tested after 14".
+pub refusal-22 : (p : Plan) (b : Image) (l : List ℕ) → called p b (list l) .answer ≡ refused 22 ↔ Kept (planRules p ++ imageRules p b) × BadList l
+unfolding before keeps planRules imageRules lengthRule listRules callRules
+refusal-22 p b l = Iff·trans (call-refuses p b (list l) 22) (Iff·and Iff·rfl (list-broken l))

@@ -13,7 +13,7 @@ use Rattle.semantics.specs.Calls.{Answer, accepted, refused, Outcome, ou
 use Rattle.semantics.proofs.Basics.{eqb-false}
 use Rattle.semantics.proofs.Refusing.{numbered, none-refused, all-kept}
 use Rattle.semantics.proofs.RuleLists.{Kept}
-use Rattle.semantics.proofs.Performed.{Performs, offering, committing, cancelling, settling, penning, stalling, performs}
+use Rattle.semantics.proofs.Performed.{Performs, offering, committing, cancelling, settling, penning, stalling, completing, stopping, performs}
 
 -- An answer is a refusal: of kind 5.
 abbrev pub Refused : Answer → Type 0
@@ -34,6 +34,8 @@ performs-no-refusal p b _ (cancelling g) = eqb-false 2 5 refl
 performs-no-refusal p b _ (settling l) = eqb-false 1 5 refl
 performs-no-refusal p b _ (penning t u) = eqb-false 4 5 refl
 performs-no-refusal p b _ (stalling n) = eqb-false 3 5 refl
+performs-no-refusal p b _ (completing t) = eqb-false 1 5 refl
+performs-no-refusal p b _ (stopping t) = eqb-false 2 5 refl
 
 pub performed-not-refused : (p : Plan) (b : Image) (k : Call) → ¬ Refused (performed p b k .answer)
 performed-not-refused p b k = performs-no-refusal p b k (performs p b k)

@@ -8,18 +8,18 @@ use mathlib.Core.List.{List, [], _∷_, _++_, map, append-assoc, append-nil, map
 use lib.Dec.{eqb}
 use Rattle.semantics.specs.Plan.{Plan, interactions, below}
 use Rattle.semantics.specs.Rules.{planRefusal}
-use Rattle.semantics.specs.Move.{enabled, eligible, after, good, mayCommit, initial}
+use Rattle.semantics.specs.Move.{enabled, eligible, after, good, mayCommit, initial, replay}
 use Rattle.semantics.specs.Image.{Image, image}
 use Rattle.semantics.specs.Calls.{Answer, committed, cancelled, Outcome, start, Call, try, calledAll}
-use Rattle.semantics.specs.Book.{Book, blank, lane, replay, bookImage, listed, crossedOff, Entry, entry, bookRefusal, bookTried, unlessWrong, turn, told, kept}
-use Rattle.semantics.specs.Run.{isRun, fromTop, triesOf, triedAnswers, commits, committedMoves, leftBy}
-use Rattle.semantics.proofs.Basics.{both-and, each, ltb-true, lt-ltb}
+use Rattle.semantics.specs.Book.{Book, blank, lane, bookImage, listed, crossedOff, Entry, entry, bookRefusal, bookTried, unlessWrong, turn, told, kept}
+use Rattle.semantics.specs.Run.{isRun, fromTop, triesOf, triedAnswers, exchanges, commits, commitOf, commitsIn, movesOf, committedMoves, leftBy}
+use Rattle.semantics.proofs.Basics.{bool-cases, both-and, each, ltb-true, lt-ltb}
 use Rattle.semantics.proofs.Ranking.{unoutranked, eligible-from, eligible-enabled, eligible-top, commit-enabled, commit-good, commit-above}
 use Rattle.semantics.proofs.RankOrder.{Order, rank-order}
 use Rattle.semantics.proofs.Clearing.{withMarked, Clears, cleared, clears, Closed, clears-from-top, marked-from-top}
 use Rattle.semantics.proofs.Masks.{mask-none}
 use Rattle.semantics.proofs.Refusing.{all-kept}
-use Rattle.semantics.proofs.BookStep.{lane-listed}
+use Rattle.semantics.proofs.BookStep.{lane-moved}
 use Rattle.semantics.proofs.BookTurns.{left-told}
 use Rattle.semantics.proofs.Demand3.{Starts, start-plan, start-is, calls-told}
 
@@ -41,7 +41,7 @@ module _ (p : Plan) (k : Book) (i : ℕ) (l : i < interactions p) (q : eligible 
       all-kept _ (lt-ltb _ _ l, (eligible-enabled p s (k .crossed) i q, (ap not (eligible-top p s (k .crossed) i q), (ap not u, tt))))
 
   -- a good move is listed
-  try-listed : good p (after p (lane p k) i) ≡ true → turn p k (try i) ≡ entry (committed i) (listed k i)
+  try-listed : good p (after p (lane p k) i) ≡ true → turn p k (try i) ≡ entry (committed i) (listed k (i ∷ []))
   unfolding turn unlessWrong bookTried
   try-listed g = rw (not-wrong, g) refl
 
@@ -55,21 +55,21 @@ module _ (p : Plan) (k : Book) (i : ℕ) (l : i < interactions p) (q : eligible 
 -- what a list of calls answers and commits, and the book after it
 record Told (p : Plan) (k : Book) (cs : List Call) (rs : List Answer) (is : List ℕ) (k' : Book) : Type 0 where
   answered : answers (told p k cs) ≡ rs
-  moves : committedMoves (told p k cs) ≡ is
+  moves : committedMoves (commitsIn (exchanges cs (told p k cs))) ≡ is
   left : kept p k cs ≡ k'
 
 nothing-told : (p : Plan) (k : Book) → Told p k [] [] [] k
-unfolding told kept committedMoves
+unfolding told kept exchanges commitsIn committedMoves
 nothing-told p k = record { answered = refl; moves = refl; left = refl }
 
--- one call, and those after it
-call-told : (p : Plan) (k : Book) (c : Call) (a : Answer) (k₁ : Book) {cs : List Call} {rs : List Answer} {is : List ℕ} {k' : Book}
-    → turn p k c ≡ entry a k₁ → Told p k₁ cs rs is k' → Told p k (c ∷ cs) (a ∷ rs) (cond (commits a) (a .number ∷ is) is) k'
-unfolding told kept committedMoves
-call-told p k c a k₁ {cs} e t =
+-- one try, and the calls after it
+call-told : (p : Plan) (k : Book) (i : ℕ) (a : Answer) (k₁ : Book) {cs : List Call} {rs : List Answer} {is : List ℕ} {k' : Book}
+    → turn p k (try i) ≡ entry a k₁ → Told p k₁ cs rs is k' → Told p k (try i ∷ cs) (a ∷ rs) (cond (commits a) (a .number ∷ is) is) k'
+unfolding told kept exchanges commitsIn commitOf committedMoves movesOf
+call-told p k i a k₁ {cs} {is = is} e t =
     record {
       answered = rw e (ap (a ∷_) (t .answered));
-      moves = rw (e, t .moves) refl;
+      moves = rw e (bool-cases (commits a) (λ w. rw w (ap (a .number ∷_) (t .moves))) (λ w. rw w (t .moves)));
       left = ap (λ (n : Entry). kept p (n .book) cs) e ∙ t .left;
     }
 
@@ -79,7 +79,7 @@ clears-told : (p : Plan) (k : Book) (js : List ℕ) {cs : List Call} {rs : List 
 unfolding withMarked lane
 clears-told p k [] cleared t = t
 clears-told p k (j ∷ js) (clears a r) t =
-    call-told p k (try j) (cancelled j) (crossedOff k (λ i. eqb i j)) (try-crossed p k j (a .number<) (a .is-eligible) (a .unmarked) (a .ends-bad))
+    call-told p k j (cancelled j) (crossedOff k (λ i. eqb i j)) (try-crossed p k j (a .number<) (a .is-eligible) (a .unmarked) (a .ends-bad))
     (clears-told p (crossedOff k (λ i. eqb i j)) js r t)
 
 -- ---- the tries of a run
@@ -108,12 +108,12 @@ module _ (p : Plan) (e : planRefusal p ≡ 0) where
       let tops : List ℕ = fromTop p (c .state) (below p i) in
       let k : Book = record { done = is; crossed = withMarked (λ j. false) tops } in
       let held = closed is i l m in
-      let ih = tries-told (is ++ (i ∷ [])) js (rw (← lane-listed p (clear is) i) at rest) in
+      let ih = tries-told (is ++ (i ∷ [])) js (rw (← lane-moved p (clear is) i) at rest) in
       let free = crossed-all is i l m in
       let one = try-listed p k i l (free .0) (free .1) (commit-good p c i m) in
       rw (map-append try tops (i ∷ triesOf p (after p c i) js))
       (clears-told p (clear is) tops (clears-from-top p order c (λ j. false) (below p i) held)
-      (call-told p k (try i) (committed i) (clear (is ++ (i ∷ []))) one (rw (lane-listed p (clear is) i, append-assoc is (i ∷ []) js) at ih)))
+      (call-told p k i (committed i) (clear (is ++ (i ∷ []))) one (rw (lane-moved p (clear is) i, append-assoc is (i ∷ []) js) at ih)))
     where
       crossed-all : (is : List ℕ) (i : ℕ) → i < interactions p → mayCommit p (lane p (clear is)) i ≡ true
           → (eligible p (lane p (clear is) .state) (withMarked (λ j. false) (fromTop p (lane p (clear is) .state) (below p i))) i ≡ true)
@@ -126,20 +126,24 @@ module _ (p : Plan) (e : planRefusal p ≡ 0) where
             marks i l ∙ rw (order .irreflexive i l) refl,
           )
 
--- what the fourth corollary says of the outcomes os of the tries of a run, begun on the image b of a start
-pub record Committed (p : Plan) (is : List ℕ) (b : Image) (os : List Outcome) : Type 0 where
+-- what the fourth corollary says of the calls cs, the tries of a run, and their outcomes os, begun on the image b of a start
+pub record Committed (p : Plan) (is : List ℕ) (b : Image) (cs : List Call) (os : List Outcome) : Type 0 where
   -- each move of the run is committed, each one above it before cancelled; none is refused
   pub answered : answers os ≡ triedAnswers p (initial p) is
   -- the moves done are the run
-  pub moves : committedMoves os ≡ is
+  pub moves : committedMoves (commitsIn (exchanges cs os)) ≡ is
   -- and the image left is the one after the run, with no marks
   pub left : leftBy b os ≡ image p (replay p (initial p) is) 0
 
+-- the tries of a run
+abbrev pub runTries : Plan → List ℕ → List Call
+runTries p is = map try (triesOf p (initial p) is)
+
 pub runs-by-tries : (p : Plan) (b : Image) → Starts p b → (is : List ℕ) → isRun p (initial p) is ≡ true
-    → Committed p is (start p b .image) (calledAll p (start p b .image) (map try (triesOf p (initial p) is)))
+    → Committed p is (start p b .image) (runTries p is) (calledAll p (start p b .image) (runTries p is))
 unfolding lane replay bookImage
 runs-by-tries p b e is r =
-    let cs : List Call = map try (triesOf p (initial p) is) in
+    let cs : List Call = runTries p is in
     let t = tries-told p (start-plan p b e) [] is r in
     rw (calls-told p b e cs, start-is p b e)
     (record {

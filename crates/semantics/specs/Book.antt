@@ -1,15 +1,17 @@
 -- The book, 01 "The book of demand 3": what each call has to answer and leave, told from the plan and the calls alone. It is fed no
--- answers and no image, and uses none of the definitions of the calls.
+-- answers and no image, and uses none of the definitions of the calls: it shares with them what a move and a list of moves mean (Move, Load).
 use Prim.Native.Nat.{ℕ, zero, suc}
 use mathlib.Core.Bool.{Bool, false, not, cond, _||_}
 use mathlib.Core.List.{List, [], _∷_, _++_}
+use lib.ListN.{length}
 use lib.Dec.{ltb, eqb}
-use Rattle.semantics.specs.Bytes.{allOf, some-below, mask}
+use Rattle.semantics.specs.Bytes.{entries, allOf, some-below, mask}
 use Rattle.semantics.specs.Plan.{Plan, interactions}
 use Rattle.semantics.specs.Refusal.{rule, refusal}
-use Rattle.semantics.specs.Move.{Configuration, enabled, outranked, eligible, after, good, safeMove, initial}
+use Rattle.semantics.specs.Move.{Configuration, enabled, outranked, eligible, after, good, safeMove, replay, initial}
+use Rattle.semantics.specs.Load.{listRules, stopsAt, completes}
 use Rattle.semantics.specs.Image.{Image, image}
-use Rattle.semantics.specs.Calls.{Answer, accepted, offers, committed, cancelled, stalled, penned, refused, Outcome, outcome, Call, offered, try, settle}
+use Rattle.semantics.specs.Calls.{Answer, accepted, offers, committed, cancelled, stalled, penned, refused, Outcome, outcome, Call, offered, try, settle, list}
 
 -- "It holds a list of moves done and a set of moves crossed off".
 pub record Book : Type 0 where
@@ -20,11 +22,6 @@ pub record Book : Type 0 where
 abbrev pub blank : Book
 blank = record { done = []; crossed = λ i. false }
 
--- The configuration after the listed moves in turn.
-unfoldable pub replay : Plan → Configuration → List ℕ → Configuration
-replay p c [] = c
-replay p c (i ∷ is) = replay p (after p c i) is
-
 -- "Its lane, oracle state included, is the starting state, its event read, after the listed moves in turn."
 unfoldable pub lane : Plan → Book → Configuration
 lane p k = replay p (initial p) (k .done)
@@ -33,9 +30,9 @@ lane p k = replay p (initial p) (k .done)
 unfoldable pub bookImage : Plan → Book → Image
 bookImage p k = image p (lane p k) (mask (interactions p) (k .crossed))
 
--- A move is listed and the set emptied.
-abbrev pub listed : Book → ℕ → Book
-listed k i = record { done = k .done ++ (i ∷ []); crossed = λ j. false }
+-- Moves are listed and the set emptied.
+abbrev pub listed : Book → List ℕ → Book
+listed k is = record { done = k .done ++ is; crossed = λ j. false }
 
 -- The moves of a set are crossed off.
 abbrev pub crossedOff : Book → (ℕ → Bool) → Book
@@ -61,7 +58,7 @@ bookRefusal p k i =
 
 -- "A try to which 16, 17, 18 or 19 applies changes nothing. Else a good move is listed and the set emptied, and any other is crossed off."
 unfoldable pub bookTried : Plan → Book → ℕ → Entry
-bookTried p k i = cond (good p (after p (lane p k) i)) (entry (committed i) (listed k i)) (entry (cancelled i) (crossedOff k (λ j. eqb j i)))
+bookTried p k i = cond (good p (after p (lane p k) i)) (entry (committed i) (listed k (i ∷ []))) (entry (cancelled i) (crossedOff k (λ j. eqb j i)))
 
 unfoldable pub unlessWrong : ℕ → Book → Entry → Entry
 unlessWrong zero k e = e
@@ -72,14 +69,20 @@ unlessWrong (suc n) k e = entry (refused (suc n)) k
 unfoldable pub bookSettled : Plan → Book → Entry
 bookSettled p k =
     let i = safeMove p (lane p k) in
-    cond (ltb i (interactions p)) (entry (committed i) (listed k i))
+    cond (ltb i (interactions p)) (entry (committed i) (listed k (i ∷ [])))
     (cond (some-below (interactions p) (enabled p (lane p k .state))) (entry penned (crossedOff k (enabled p (lane p k .state)))) (entry stalled k))
 
--- The book's answer to one call.
+-- 02, job 6: "A committed list adds all its entries, in order, to the book's moves done and empties the set; any other changes nothing."
+unfoldable pub bookListed : Plan → Book → List ℕ → Entry
+bookListed p k is =
+    cond (completes p (lane p k) is) (entry (committed (length is)) (listed k is)) (entry (cancelled (stopsAt p (lane p k) is)) k)
+
+-- The book's answer to one call. "The book is fed a list's bytes too and answers it on its own lane by the rules here, 22 included."
 unfoldable pub turn : Plan → Book → Call → Entry
 turn p k offered = bookOffered p k
 turn p k (try i) = unlessWrong (bookRefusal p k i) k (bookTried p k i)
 turn p k settle = bookSettled p k
+turn p k (list l) = unlessWrong (refusal (listRules l)) k (bookListed p k (entries l))
 
 -- What the book says of a sequence of calls: each answer, and its image then.
 unfoldable pub told : Plan → Book → List Call → List Outcome

@@ -2,7 +2,7 @@
 use Prim.Native.Nat.{ℕ, zero, suc, _+_, _*_, _/_, _%_}
 use mathlib.Core.Bool.{Bool, true, false, cond, _&&_, _||_}
 use mathlib.Core.List.{List, [], _∷_, _++_}
-use lib.ListN.{getD}
+use lib.ListN.{length, getD}
 use lib.Dec.{ltb, eqb}
 
 -- The byte at place i; 0 past the end.
@@ -58,6 +58,10 @@ satisfying (suc n) f = satisfying n f ++ cond (f n) (n ∷ []) []
 unfoldable pub table : {A : Type 0} → ℕ → (ℕ → A) → List A
 table zero f = []
 table (suc n) f = f zero ∷ table n (λ k. f (suc k))
+
+-- 02, jobs 4 and 6: moves, "16 bits each", of a log or a list. A last byte without its second one is no entry.
+unfoldable pub entries : List ℕ → List ℕ
+entries bs = table (length bs / 2) (λ k. u16 bs (2 * k))
 
 -- Bit k of m.
 unfoldable pub bit : ℕ → ℕ → Bool

@@ -2,13 +2,15 @@
 use Prim.Native.Nat.{ℕ, zero, suc, _+_, _*_}
 use mathlib.Core.Bool.{not, cond}
 use mathlib.Core.List.{List, [], _∷_, _++_}
+use lib.ListN.{length}
 use lib.Dec.{ltb}
-use Rattle.semantics.specs.Bytes.{allOf, some-below, bit, mask, withBit}
+use Rattle.semantics.specs.Bytes.{entries, allOf, some-below, bit, mask, withBit}
 use Rattle.semantics.specs.Plan.{Plan, interactions}
 use Rattle.semantics.specs.Refusal.{Rule, rule, refusal}
 use Rattle.semantics.specs.Rules.{planRules}
-use Rattle.semantics.specs.Move.{enabled, outranked, eligible, after, good, safeMove, initial}
+use Rattle.semantics.specs.Move.{enabled, outranked, eligible, after, good, safeMove, replay, initial}
 use Rattle.semantics.specs.Image.{Image, image, withMarks, marksOf, configurationOf, lengthRule, imageRules}
+use Rattle.semantics.specs.Load.{listRules, stopsAt, completes}
 
 -- "Other answers are a kind .. and a number"; "An accepted offered call answers kind 0, number 0 and the bits; a refused one kind 5,
 -- its number and no bits." The bits are what a second call returns; of a log (02, job 4) they are an index.
@@ -18,7 +20,8 @@ pub record Answer : Type 0 where
   pub bits : ℕ
 
 -- "(0 accepted, 1 committed, 2 cancelled, 3 stalled, 4 penned, 5 refused) and a number: the interaction for 1 and 2, the refusal
--- for 5, else 0". Stalled: nothing is enabled. Penned: something is, and settling found no move that ends good.
+-- for 5, else 0"; of a list (02, job 6) the number of entries for 1, and an index for 2. Stalled: nothing is enabled. Penned: something is, and settling found no
+-- move that ends good.
 abbrev pub accepted : Answer
 accepted = record { kind = 0; number = 0; bits = 0 }
 
@@ -93,23 +96,33 @@ settled p b =
     (cond (some-below (interactions p) (enabled p (configurationOf b .state)))
     (outcome penned (withMarks b (mask (interactions p) (enabled p (configurationOf b .state))))) (outcome stalled b))
 
--- The calls on a started image.
+-- 02, job 6: "the list is committed whole, marks are cleared, and the answer is kind 1 with the number of entries. Otherwise the image is untouched, marks
+-- included, and the answer is kind 2 with the index, from 0, of the first entry not allowed, or the number of entries when only the end was not good."
+unfoldable pub handedIn : Plan → Image → List ℕ → Outcome
+handedIn p b is =
+    cond (completes p (configurationOf b) is) (outcome (committed (length is)) (image p (replay p (configurationOf b) is) 0))
+    (outcome (cancelled (stopsAt p (configurationOf b) is)) b)
+
+-- The calls on a started image. A list is its bytes.
 pub data Call : Type 0 where
   offered : Call
   try : ℕ → Call
   settle : Call
+  list : List ℕ → Call
 
--- Each call's refusals, in order: of the plan and of the image, 11 to 14; for a try then 16 to 19.
+-- Each call's refusals, in order: of the plan and of the image, 11 to 14; for a try then 16 to 19, for a list 22.
 unfoldable pub callRules : Plan → Image → Call → List Rule
 callRules p b offered = planRules p ++ imageRules p b
 callRules p b (try i) = planRules p ++ imageRules p b ++ clerkRules p b i
 callRules p b settle = planRules p ++ imageRules p b
+callRules p b (list l) = planRules p ++ imageRules p b ++ listRules l
 
 -- What a call does that is not refused.
 unfoldable pub performed : Plan → Image → Call → Outcome
 performed p b offered = outcome (offers (offeredMask p b)) b
 performed p b (try i) = tried p b i
 performed p b settle = settled p b
+performed p b (list l) = handedIn p b (entries l)
 
 unfoldable pub called : Plan → Image → Call → Outcome
 called p b k = unlessRefused (refusal (callRules p b k)) b (performed p b k)

@@ -4,6 +4,7 @@ pub mod Calls
 pub mod Cases
 pub mod Code
 pub mod Image
+pub mod Load
 pub mod Log
 pub mod Move
 pub mod Plan

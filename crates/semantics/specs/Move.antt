@@ -3,7 +3,7 @@ use Prim.Native.Nat.{ℕ, zero, suc, min}
 use mathlib.Core.Bool.{Bool, not, cond, _&&_}
 use mathlib.Core.List.{List, [], _∷_}
 use lib.ListN.{getD}
-use lib.Dec.{ltb, eqb}
+use lib.Dec.{leb, ltb, eqb}
 use lib.IntN.{pos}
 use Rattle.semantics.specs.Bytes.{allOf, implies, every, some-below, lowest, table, mask}
 use Rattle.semantics.specs.Plan.{Plan, maxComponents, maxVariables, maxOracles, noPort, components, variables, transitions, interactions, propositions, addedOracles, oracles, oracleStates, startStates}
@@ -87,21 +87,34 @@ unfoldable pub lowestVerdict : Plan → List ℕ → ℕ → ℕ
 lowestVerdict p qs zero = verdict p 0 (getD qs 0 0)
 lowestVerdict p qs (suc n) = min (lowestVerdict p qs n) (verdict p (suc n) (getD qs (suc n) 0))
 
--- "A state is good when the oracle's new verdict is not 0."
-unfoldable pub oraclesGood : Plan → List ℕ → Bool
-oraclesGood p qs = not (eqb (lowestVerdict p qs (addedOracles p)) 0)
+-- The verdict of the oracles' states is v or more.
+unfoldable pub reaches : Plan → ℕ → List ℕ → Bool
+reaches p v qs = leb v (lowestVerdict p qs (addedOracles p))
 
--- The same of a configuration.
+-- "A state is good when the oracle's new verdict is not 0"; 02, job 6: "For one tried or settled move, for marks, for the log check, for 13 and for 15, only verdicts 2
+-- and 3 are good."
 unfoldable pub good : Plan → Configuration → Bool
-good p c = oraclesGood p (c .oracles)
+good p c = reaches p 2 (c .oracles)
+
+-- 02, job 6, of an entry of a list: "its verdict is not 0". A state of verdict 1, 002's currently false, is tolerable and not good.
+unfoldable pub tolerable : Plan → Configuration → Bool
+tolerable p c = reaches p 1 (c .oracles)
+
+-- The move is enabled and leads to a verdict of v or more.
+unfoldable pub leads : Plan → ℕ → Configuration → ℕ → Bool
+leads p v c i = allOf (enabled p (c .state) i ∷ reaches p v (after p c i .oracles) ∷ [])
+
+-- Such a move lies above interaction i.
+unfoldable pub leadsAbove : Plan → ℕ → Configuration → ℕ → Bool
+leadsAbove p v c i = some-below (interactions p) (λ j. below p i j && leads p v c j)
 
 -- The move is enabled and ends good: what the monitor of 002 lets be done.
 unfoldable pub safe : Plan → Configuration → ℕ → Bool
-safe p c i = allOf (enabled p (c .state) i ∷ good p (after p c i) ∷ [])
+safe p c i = leads p 2 c i
 
 -- 02, job 3: ".. this ranking, where an enabled good move above is what outranks".
 unfoldable pub dominated : Plan → Configuration → ℕ → Bool
-dominated p c i = some-below (interactions p) (λ j. below p i j && safe p c j)
+dominated p c i = leadsAbove p 2 c i
 
 -- The move may be committed: it "is enabled, good, and has no enabled good move above it". BIP's priority rule over the monitor's commits.
 unfoldable pub mayCommit : Plan → Configuration → ℕ → Bool
@@ -110,6 +123,11 @@ mayCommit p c i = allOf (safe p c i ∷ not (dominated p c i) ∷ [])
 -- "Settling commits the lowest-numbered" such move: that move, or I where there is none.
 unfoldable pub safeMove : Plan → Configuration → ℕ
 safeMove p c = lowest (interactions p) (mayCommit p c)
+
+-- The configuration after the listed moves in turn.
+unfoldable pub replay : Plan → Configuration → List ℕ → Configuration
+replay p c [] = c
+replay p c (i ∷ is) = replay p (after p c i) is
 
 -- Each component at its starting location, no last port yet, each variable at its starting value; unused entries as the image has them.
 unfoldable pub initialState : Plan → State

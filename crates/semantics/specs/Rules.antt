@@ -71,11 +71,12 @@ rankOk p i =
     allOf (every maxInteractions (λ j. implies (below p i j) (ltb j (interactions p))) ∷ not (below p i i)
     ∷ every (interactions p) (λ j. every (interactions p) (λ k. implies (below p i j && below p j k) (below p i k))) ∷ [])
 
--- 9: "a verdict other than 0, 2, 3".
+-- 9: "a verdict other than 0, 2, 3", of which 02, job 6, makes 1 lawful, "with no rule on its followers".
 unfoldable pub verdictOk : ℕ → Bool
-verdictOk v = allOf (leb v 3 ∷ not (eqb v 1) ∷ [])
+verdictOk v = leb v 3
 
--- 9: "a next state at or above S, a bad state with a follower that is not bad, a 3 state with a follower that is not 3", of oracle n.
+-- 9: "a next state at or above S, a bad state with a follower that is not bad, a 3 state with a follower that is not 3", of oracle n. 02, job 6: "In the rules of 9
+-- and 20 a bad state is still one of verdict 0."
 unfoldable pub followerOk : Plan → ℕ → ℕ → ℕ → Bool
 followerOk p n q r =
     allOf (ltb r (oracleStates p n) ∷ implies (eqb (verdict p n q) 0) (eqb (verdict p n r) 0)

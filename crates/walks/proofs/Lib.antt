@@ -1,1 +1,4 @@
+pub mod ListLaws
 pub mod LogLaws
+pub mod StepLaws
+pub mod WalkLaws

@@ -1,4 +1,5 @@
-// One step of a walk: a move that the ranking allows is made, of any other the cause is said.
+// One step of a walk, of a log or a list: a move that the ranking allows is made, of any other the cause is said. A move passes from the verdict v on: 2 for a log, 1
+// for a list.
 use choices::choice;
 use choices::masks;
 use layout::header::interactions;
@@ -15,24 +16,24 @@ ghost use lib.ListN.{replicate};
 ghost use Rattle.semantics.specs.Plan.{transitions, interactions, rankRow};
 ghost use Rattle.semantics.specs.Code.{site};
 ghost use Rattle.semantics.specs.Rules.{planRefusal};
-ghost use Rattle.semantics.specs.Move.{after, dominated, oraclesInRange};
-ghost use Rattle.semantics.specs.Log.{cause, right};
+ghost use Rattle.semantics.specs.Move.{after, oraclesInRange, leadsAbove};
+ghost use Rattle.semantics.specs.Log.{causeFrom, passes};
 ghost use Rattle.choices.specs.Choices.{chosenTable, ChosenIn};
 ghost use Rattle.lane.specs.Runs.{lent, Sized};
 
-// Whether the move may be made; where not the cause, 0 where it ends bad; where it may, the oracles' states after it.
+// Whether the move is made; where not the cause, 0 where its own verdict is too low; where it is, the oracles' states after it.
 pub struct Stepped {
-    pub right: bool,
+    pub made: bool,
     pub cause: u8,
     pub oracles: [u8; 4],
 }
 
 // A move that is not made.
 fn stopped(cause: u8, oracles: [u8; 4]) -> Stepped
-    ensures { λ r. ⌜ (r .right ≡ false) × (r .cause ≡ cause) ⌝ }
+    ensures { λ r. ⌜ (r .made ≡ false) × (r .cause ≡ cause) ⌝ }
 {
     Stepped {
-        right: false,
+        made: false,
         cause: cause,
         oracles: oracles,
     }
@@ -60,8 +61,8 @@ fn choose_for<'a>(
     true
 }
 
-// Whether an enabled move that ends good lies above move i. Where one is ranked above it at all the table of choices is the whole one.
-fn good_above<'a>(
+// Whether an enabled move that leads to v or more lies above move i. Where one is ranked above it at all the table of choices is the whole one.
+fn leading_above<'a>(
     plan: &[u8],
     locations: &'a [u8; 16],
     ports: &'a [u8; 16],
@@ -70,19 +71,21 @@ fn good_above<'a>(
     chosen: &[u16; 256],
     i: usize,
     ranked: bool,
+    v: u8,
 ) -> bool
     requires { ⌜ planRefusal (now plan) ≡ 0 ⌝ }
     requires { ⌜ (i < interactions (now plan)) × (oraclesInRange (now plan) oracles ≡ true) × Sized (now locations) (now ports) (now values) ⌝ }
     requires { ⌜ (ranked ≡ not (eqb (rankRow (now plan) i) 0)) × (ranked ≡ true → now chosen ≡ chosenTable (now plan) (site (now locations) (now ports) (now values))) ⌝ }
-    ensures { λ r. ⌜ r ≡ dominated (now (plan .entry)) (lent (now (locations .entry)) (now (ports .entry)) (now (values .entry)) oracles) i ⌝ }
+    ensures { λ r. ⌜ r ≡ leadsAbove (now (plan .entry)) v (lent (now (locations .entry)) (now (ports .entry)) (now (values .entry)) oracles) i ⌝ }
 {
     if !ranked {
         return false;
     }
-    search::is_dominated(plan, locations, ports, values, oracles, chosen, i)
+    search::leads_above(plan, locations, ports, values, oracles, chosen, i, v)
 }
 
-// Makes move i where the ranking allows it: the enabled ones above it are judged first, then it is made in place. What a wrong move leaves is of no use.
+// Makes move i where the ranking allows it and it leads to v or more: the enabled ones above it are judged first, then it is made in place. What a move that does
+// not pass leaves is of no use.
 pub fn step(
     plan: &[u8],
     locations: &mut [u8; 16],
@@ -90,12 +93,13 @@ pub fn step(
     values: &mut [i32; 64],
     oracles: [u8; 4],
     i: usize,
+    v: u8,
 ) -> Stepped
     requires { ⌜ planRefusal (now plan) ≡ 0 ⌝ }
     requires { ⌜ (oraclesInRange (now plan) oracles ≡ true) × Sized (now locations) (now ports) (now values) ⌝ }
-    ensures { λ r. ⌜ (r .right ≡ right (now (plan .entry)) (lent (now (locations .entry)) (now (ports .entry)) (now (values .entry)) oracles) i)
-        × (r .cause ≡ cause (now (plan .entry)) (lent (now (locations .entry)) (now (ports .entry)) (now (values .entry)) oracles) i) ⌝ }
-    ensures { λ r. ⌜ (r .right ≡ true → (lent (now (locations .exit)) (now (ports .exit)) (now (values .exit)) (r .oracles) ≡ after (now (plan .entry)) (lent (now (locations .entry)) (now (ports .entry)) (now (values .entry)) oracles) i)
+    ensures { λ r. ⌜ (r .made ≡ passes (now (plan .entry)) v (lent (now (locations .entry)) (now (ports .entry)) (now (values .entry)) oracles) i)
+        × (r .cause ≡ causeFrom (now (plan .entry)) v (lent (now (locations .entry)) (now (ports .entry)) (now (values .entry)) oracles) i) ⌝ }
+    ensures { λ r. ⌜ (r .made ≡ true → (lent (now (locations .exit)) (now (ports .exit)) (now (values .exit)) (r .oracles) ≡ after (now (plan .entry)) (lent (now (locations .entry)) (now (ports .entry)) (now (values .entry)) oracles) i)
         × (oraclesInRange (now (plan .entry)) (r .oracles) ≡ true) × Sized (now (locations .exit)) (now (ports .exit)) (now (values .exit))) ⌝ }
 {
     if i >= interactions(plan) {
@@ -108,12 +112,22 @@ pub fn step(
     if !bits::bit(enabled, i) {
         return stopped(17, oracles);
     }
-    if good_above(plan, locations, ports, values, oracles, &chosen, i, ranked) {
+    if leading_above(
+        plan,
+        locations,
+        ports,
+        values,
+        oracles,
+        &chosen,
+        i,
+        ranked,
+        v,
+    ) {
         return stopped(18, oracles);
     }
     let states = judge::after(plan, locations, ports, values, oracles, &chosen, i);
     Stepped {
-        right: row::good(plan, states),
+        made: row::reaches(plan, states, v),
         cause: 0,
         oracles: states,
     }

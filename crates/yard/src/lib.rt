@@ -1,11 +1,12 @@
 // The calls that C programs make: include/yard.h. An answer is one number, kind * 65536 + number.
 use engine::answer;
 use engine::calls;
+use walks::list;
 use walks::log;
 ghost use mathlib.Core.Path.{_≡_};
 ghost use Rattle.semantics.specs.Calls.{packed, check, start, called, offeredBits};
 ghost use Rattle.semantics.specs.Log.{checkLog, logIndex};
-ghost use Rattle.semantics.specs.Calls.Call.{offered, try, settle};
+ghost use Rattle.semantics.specs.Calls.Call.{offered, try, settle, list};
 
 // Whether a plan is lawful: accepted, or refused with 1 to 10 or 20.
 #[no_mangle]
@@ -58,6 +59,14 @@ pub extern "C" fn yard_settle(plan: &[u8], image: &mut [u8]) -> u32
     ensures { λ r. ⌜ (r ≡ packed (called (now (plan .entry)) (now (image .entry)) settle .answer)) × (now (image .exit) ≡ called (now (plan .entry)) (now (image .entry)) settle .image) ⌝ }
 {
     answer::packed(calls::settle(plan, image))
+}
+
+// Hands in a list of moves: committed whole, cancelled, or refused with 1 to 14, 20 or 22.
+#[no_mangle]
+pub extern "C" fn yard_list(plan: &[u8], image: &mut [u8], moves: &[u8]) -> u32
+    ensures { λ r. ⌜ (r ≡ packed (called (now (plan .entry)) (now (image .entry)) (list (now (moves .entry))) .answer)) × (now (image .exit) ≡ called (now (plan .entry)) (now (image .entry)) (list (now (moves .entry))) .image) ⌝ }
+{
+    answer::packed(list::hand_in(plan, image, moves))
 }
 
 // Whether a log is a run from the starting state: accepted, wrong with the cause, or refused with 1 to 10, 15, 20 or 21.

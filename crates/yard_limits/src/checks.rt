@@ -186,6 +186,7 @@ fn ranks(buf: &mut Buffer) {
     changed(b"verdict 4", buf, 108, 4);
     changed(b"next state not below S", buf, 110, 1);
     followed(b"bad state with a good follower", buf, 0);
+    followed(b"1 state with a follower of 2", buf, 1);
     followed(b"3 state with a follower of 2", buf, 3);
 }
 

@@ -1,9 +1,10 @@
-// Runs the plan check, the calls on an image, both with added oracles, sums, ranks with marks, and the
-// check of a log, at their limits: for each case a line with the case and the answer, of a log a second
+// Runs the plan check, the calls on an image, both with added oracles, sums, ranks with marks, the
+// check of a log and lists of moves, at their limits: for each case a line with the case and the answer, of a log a second
 // one with the index. What the modules of the cases share stands here, private to them: lawful plans laid
 // into a buffer, and the lines of the calls.
 mod calls;
 mod checks;
+mod lists;
 mod logs;
 mod oracle_calls;
 mod oracle_checks;
@@ -287,4 +288,5 @@ fn main() {
     sums::run();
     rank_calls::run();
     logs::run();
+    lists::run();
 }

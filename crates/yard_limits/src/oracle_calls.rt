@@ -70,7 +70,7 @@ fn alike(a: &Image, b: &Image) -> bool {
 }
 
 // The line on what a call did to the image.
-fn compared(label: &[u8], before: &Image, image: &Image) {
+pub(super) fn compared(label: &[u8], before: &Image, image: &Image) {
     io::write_all(1, label);
     if alike(before, image) {
         io::write_all(1, b": as it was\n");

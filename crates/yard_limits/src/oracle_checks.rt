@@ -123,6 +123,12 @@ fn verdicts(buf: &mut Buffer) {
         &[0, 1, 1],
     );
     tabled(
+        b"1 state with followers of 1 and 2 in an added table",
+        buf,
+        120,
+        &[1, 1, 0],
+    );
+    tabled(
         b"3 state with a follower of 2 in an added table",
         buf,
         120,
@@ -133,18 +139,18 @@ fn verdicts(buf: &mut Buffer) {
 // Tables of added oracles that break their rule beside another fault: 20 is after 9 and before 10.
 fn order(buf: &mut Buffer) {
     let len = three(buf);
-    poke(buf, 108, 1);
-    poke(buf, 114, 1);
+    poke(buf, 108, 4);
+    poke(buf, 114, 4);
     ask(
-        b"verdict 1 in the first table and in an added one",
+        b"verdict 4 in the first table and in an added one",
         buf,
         len,
     );
     let len = three(buf);
-    poke(buf, 114, 1);
+    poke(buf, 114, 4);
     poke16(buf, 106, 0);
     ask(
-        b"verdict 1 in an added table, and an empty proposition",
+        b"verdict 4 in an added table, and an empty proposition",
         buf,
         len,
     );

@@ -97,7 +97,7 @@ fn longest(buf: &mut Buffer) -> usize {
 }
 
 // The line of the image's marks.
-fn marks(label: &[u8], image: &Image) {
+pub(super) fn marks(label: &[u8], image: &Image) {
     number(label, bytes::u64_at(image, MARKS));
 }
 

@@ -8,6 +8,7 @@ yard::engine!(
     "base_offered_bits",
     "base_try",
     "base_settle",
+    "base_list",
     "base_log",
     "base_log_index"
 );

@@ -3,45 +3,35 @@
 use reference::answer::{Answer, Refusal};
 use reference::calls;
 use reference::image;
-use reference::lane::Lane;
+use reference::lane::{is_good, Lane};
 use reference::plan::Plan;
 
-#[derive(Clone, Copy, Debug, PartialEq, Eq)]
-pub enum Cause {
-    Number,
-    States,
-    UnusedStates,
-    StateOutOfRange,
-    BadState,
-    UnusedState,
-    BadStart,
-    Cancelled,
-    Penned,
+use crate::engines::Call;
+use crate::named::named;
+
+named! {
+    Cause, CAUSES:
+    Number = "2 by the number of added oracles",
+    States = "2 by the states of an added oracle",
+    UnusedStates = "2 by the states of an unused oracle",
+    StateOutOfRange = "13 by an added oracle's state out of range",
+    BadState = "13 by an added oracle's bad state",
+    UnusedState = "13 by an unused oracle's state",
+    BadStart = "15 by added oracles alone",
+    Cancelled = "cancelled by added oracles alone",
+    Penned = "penned by added oracles alone",
 }
 
-pub const CAUSES: [(Cause, &str); 9] = [
-    (Cause::Number, "2 by the number of added oracles"),
-    (Cause::States, "2 by the states of an added oracle"),
-    (Cause::UnusedStates, "2 by the states of an unused oracle"),
-    (
-        Cause::StateOutOfRange,
-        "13 by an added oracle's state out of range",
-    ),
-    (Cause::BadState, "13 by an added oracle's bad state"),
-    (Cause::UnusedState, "13 by an unused oracle's state"),
-    (Cause::BadStart, "15 by added oracles alone"),
-    (Cause::Cancelled, "cancelled by added oracles alone"),
-    (Cause::Penned, "penned by added oracles alone"),
-];
-
 /// The cause of a call's answer, where it is one of these and nothing else.
-pub fn cause(plan: &[u8], image: &[u8], answer: Answer) -> Option<Cause> {
-    match answer {
-        Answer::Refused(Refusal::Count) => count(plan),
-        Answer::Refused(Refusal::State) => state(&lawful(plan), image),
-        Answer::Refused(Refusal::BadStart) => start(&lawful(plan)),
-        Answer::Cancelled(interaction) => cancelled(&lawful(plan), image, interaction),
-        Answer::Penned => penned(&lawful(plan), image),
+pub fn cause(call: Call, plan: &[u8], image: &[u8], answer: Answer) -> Option<Cause> {
+    match (call, answer) {
+        (_, Answer::Refused(Refusal::Count)) => count(plan),
+        (_, Answer::Refused(Refusal::State)) => state(&lawful(plan), image),
+        (_, Answer::Refused(Refusal::BadStart)) => start(&lawful(plan)),
+        (Call::Try(_), Answer::Cancelled(interaction)) => {
+            cancelled(&lawful(plan), image, interaction)
+        }
+        (_, Answer::Penned) => penned(&lawful(plan), image),
         _ => None,
     }
 }
@@ -89,16 +79,16 @@ fn state_fault(plan: &Plan, oracle: usize, state: usize) -> Option<(Cause, usize
     let Some(oracle) = plan.oracles.get(oracle) else {
         return (state != 0).then_some((Cause::UnusedState, 0));
     };
-    let good = oracle.iter().position(|state| state.verdict != 0)?;
+    let good = oracle.iter().position(|state| is_good(state.verdict))?;
     match oracle.get(state) {
         None => Some((Cause::StateOutOfRange, good)),
-        Some(state) => (state.verdict == 0).then_some((Cause::BadState, good)),
+        Some(state) => (!is_good(state.verdict)).then_some((Cause::BadState, good)),
     }
 }
 
-/// Whether the first oracle's verdict on the lane is not bad.
+/// Whether the first oracle's verdict on the lane is good.
 fn first_good(plan: &Plan, lane: &Lane) -> bool {
-    plan.oracles[0][lane.oracles[0]].verdict != 0
+    is_good(plan.oracles[0][lane.oracles[0]].verdict)
 }
 
 fn start(plan: &Plan) -> Option<Cause> {

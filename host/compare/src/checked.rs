@@ -9,12 +9,15 @@ use crate::causes::cause;
 use crate::difference::Difference;
 use crate::engines::{Call, Engine, Reply, BASELINE, LIBRARY};
 use crate::fault::{self, Case};
+use crate::halves::halves;
 use crate::lent::{End, Lent, LentPlan, ENDS};
+use crate::lists::listed;
 use crate::logs::shown;
+use crate::older;
 use crate::ranking::Ranked;
 use crate::tally::Tally;
 
-/// The longest image, lawful or not, and the longest log have fewer bytes.
+/// The longest image and the longest list, lawful or not, and the longest log have fewer bytes.
 const ROOM: usize = 2000;
 
 /// The call's result, on which all agree.
@@ -43,6 +46,7 @@ pub struct Comparer {
     /// Another build of the library.
     older: Option<Engine>,
     lent: Lent,
+    list: Lent,
 }
 
 impl Comparer {
@@ -57,6 +61,7 @@ impl Comparer {
             library,
             older: None,
             lent: Lent::new(ROOM),
+            list: Lent::new(ROOM),
         }
     }
 
@@ -64,6 +69,11 @@ impl Comparer {
     pub fn and_older(mut self, engine: Engine) -> Comparer {
         self.older = Some(engine);
         self
+    }
+
+    /// Whether all of them have lists, and so verdict 1.
+    pub fn has_lists(&self) -> bool {
+        self.older.is_none_or(older::has_lists)
     }
 
     /// The names of all that are compared.
@@ -86,19 +96,8 @@ impl Comparer {
         call: Call,
     ) -> Checked<Outcome> {
         let (outcome, past) = sums::counted(|| by_reference(call, plan.bytes(), lent));
-        tally.count(call, outcome.answer);
         tally.past(past);
-        if let Some(cause) = cause(plan.bytes(), lent, outcome.answer) {
-            tally.cause(cause);
-        }
-        if call == Call::Log {
-            let shown = shown(plan.bytes(), lent, outcome.answer);
-            shown.into_iter().for_each(|what| tally.shown(what));
-        }
-        if let Some(ranked) = Ranked::read(call, plan.bytes(), lent) {
-            let facts = ranked.facts(call, outcome.answer, outcome.bits);
-            facts.into_iter().for_each(|fact| tally.fact(fact));
-        }
+        count(tally, plan.bytes(), lent, call, &outcome);
         let question = Question {
             call,
             number: tally.calls,
@@ -129,8 +128,8 @@ impl Comparer {
             "answer"
         } else if after != outcome.image {
             "image"
-        } else if outcome.answer.kind() == yard::REFUSED && after != question.lent {
-            "image of a refused call"
+        } else if keeps_all(question.call, outcome.answer) && after != question.lent {
+            "image of a refused call or a list that was not committed"
         } else {
             return Ok(());
         };
@@ -146,9 +145,13 @@ impl Comparer {
         }))
     }
 
-    /// Lends the plan and a copy of the image or log, and makes the call.
+    /// Lends the plan, a copy of the image or log, and the list, and makes the call.
     fn ask(&mut self, engine: Engine, end: End, question: &Question) -> Reply {
         self.lent.put(end, question.lent);
+        let list = question.call.list();
+        if let Some(list) = list {
+            self.list.put(end, list.bytes());
+        }
         let plan = question.plan.at(end);
         let case = Case {
             seed: self.seed,
@@ -158,14 +161,46 @@ impl Comparer {
             end,
             plan: addresses(plan),
             lent: addresses(self.lent.bytes()),
+            list: list.map(|_| addresses(self.list.bytes())),
         };
-        fault::during(&case, || engine.make(question.call, plan, &mut self.lent))
+        fault::during(&case, || {
+            engine.make(question.call, plan, &mut self.lent, &mut self.list)
+        })
     }
+}
+
+/// Whether no byte may change.
+fn keeps_all(call: Call, answer: Answer) -> bool {
+    let is_list = call.list().is_some();
+    answer.kind() == yard::REFUSED || is_list && answer.kind() != yard::COMMITTED
 }
 
 fn addresses(bytes: &[u8]) -> std::ops::Range<usize> {
     let start = bytes.as_ptr().addr();
     start..start + bytes.len()
+}
+
+/// Counts the call, its answer and what they show.
+fn count(tally: &mut Tally, plan: &[u8], lent: &[u8], call: Call, outcome: &Outcome) {
+    let answer = outcome.answer;
+    tally.count(call, answer);
+    if let Some(cause) = cause(call, plan, lent, answer) {
+        tally.cause(cause);
+    }
+    if call == Call::Log {
+        let shown = shown(plan, lent, answer);
+        shown.into_iter().for_each(|what| tally.shown(what));
+    }
+    if let Call::List(list) = &call {
+        let listed = listed(plan, lent, list, answer);
+        listed.into_iter().for_each(|what| tally.listed(what));
+    }
+    let halves = halves(call, plan, lent, answer);
+    halves.into_iter().for_each(|what| tally.half(what));
+    if let Some(ranked) = Ranked::read(call, plan, lent) {
+        let facts = ranked.facts(call, answer, outcome.bits);
+        facts.into_iter().for_each(|fact| tally.fact(fact));
+    }
 }
 
 fn by_reference(call: Call, plan: &[u8], lent: &[u8]) -> Outcome {
@@ -176,6 +211,7 @@ fn by_reference(call: Call, plan: &[u8], lent: &[u8]) -> Outcome {
         Call::Offered | Call::Bits => calls::offered(plan, &image),
         Call::Try(number) => (calls::attempt(plan, &mut image, number), 0),
         Call::Settle => (calls::settle(plan, &mut image), 0),
+        Call::List(list) => (calls::list(plan, &mut image, list.bytes()), 0),
         Call::Log | Call::LogIndex => log::check(plan, lent),
     };
     Outcome {

@@ -33,6 +33,9 @@ impl Run {
     fn start(self, comparer: Comparer) -> ExitCode {
         fault::watch();
         println!("{}: seed {}\n", comparer.names(), self.seed);
+        if !comparer.has_lists() {
+            println!("lists and plans with verdict 1 are left out: the older build has neither\n");
+        }
         let mut session = Session::new(self.seed, comparer);
         let difference = session.compare(self.calls).err();
         print!("{}", session.tally);
@@ -41,7 +44,7 @@ impl Run {
             println!("{} calls compared, 1 difference", session.tally.calls);
             return ExitCode::FAILURE;
         }
-        let missing = session.tally.missing();
+        let missing = session.missing();
         for name in &missing {
             println!("never occurred: {name}");
         }

@@ -220,9 +220,8 @@ fn table(rng: &mut Rng, oracle: &mut [OracleState]) {
     };
     let letter = rng.below(next.len());
     match rng.below(5) {
-        0 => *verdict = 1,
-        1 => *verdict = past(rng, 4),
-        2 => *verdict = rng.pick(&[0, 2, 3]),
+        0 | 1 => *verdict = past(rng, 4),
+        2 => *verdict = rng.pick(&[0, 1, 2, 3]),
         3 => next[letter] = past(rng, states),
         _ => next[letter] = rng.below(states.into()) as u8,
     }

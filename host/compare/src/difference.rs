@@ -33,6 +33,9 @@ impl Difference {
         }
         self.save(seed, "plan", &self.plan);
         self.save(seed, lends, &self.lent);
+        if let Some(list) = self.call.list() {
+            self.save(seed, "list", list.bytes());
+        }
     }
 
     fn save(&self, seed: u64, kind: &str, bytes: &[u8]) {

@@ -5,6 +5,7 @@ use yard::Answer;
 
 use crate::baseline;
 use crate::lent::Lent;
+use crate::list::List;
 
 #[derive(Clone, Copy, Debug, PartialEq, Eq)]
 pub enum Call {
@@ -14,6 +15,7 @@ pub enum Call {
     Bits,
     Try(u32),
     Settle,
+    List(List),
     Log,
     LogIndex,
 }
@@ -28,8 +30,9 @@ impl Call {
             Call::Bits => 3,
             Call::Try(_) => 4,
             Call::Settle => 5,
-            Call::Log => 6,
-            Call::LogIndex => 7,
+            Call::List(_) => 6,
+            Call::Log => 7,
+            Call::LogIndex => 8,
         }
     }
 
@@ -37,7 +40,7 @@ impl Call {
         matches!(self, Call::Log | Call::LogIndex)
     }
 
-    /// What is lent beside the plan.
+    /// What is lent beside the plan; a list comes on top.
     pub fn lends(self) -> &'static str {
         if self.is_of_log() {
             "log"
@@ -46,14 +49,23 @@ impl Call {
         }
     }
 
+    /// The list that is handed in.
+    pub fn list(&self) -> Option<&List> {
+        match self {
+            Call::List(list) => Some(list),
+            _ => None,
+        }
+    }
+
     /// What the book is told; nothing of a check or a log, which have no lane.
-    pub fn told(self) -> Option<book::Call> {
+    pub fn told(&self) -> Option<book::Call<'_>> {
         match self {
             Call::Check | Call::Log | Call::LogIndex => None,
             Call::Start => Some(book::Call::Start),
             Call::Offered | Call::Bits => Some(book::Call::Offered),
-            Call::Try(number) => Some(book::Call::Try(number)),
+            Call::Try(number) => Some(book::Call::Try(*number)),
             Call::Settle => Some(book::Call::Settle),
+            Call::List(list) => Some(book::Call::List(list.bytes())),
         }
     }
 }
@@ -90,6 +102,7 @@ pub struct Engine {
     pub bits: fn(&[u8], &[u8]) -> u64,
     pub attempt: fn(&[u8], &mut [u8], u32) -> Answer,
     pub settle: fn(&[u8], &mut [u8]) -> Answer,
+    pub list: fn(&[u8], &mut [u8], &[u8]) -> Answer,
     pub log: fn(&[u8], &[u8]) -> Answer,
     pub log_index: fn(&[u8], &[u8]) -> u64,
 }
@@ -102,6 +115,7 @@ pub const LIBRARY: Engine = Engine {
     bits: yard::offered_bits,
     attempt: yard::attempt,
     settle: yard::settle,
+    list: yard::list,
     log: yard::log,
     log_index: yard::log_index,
 };
@@ -114,13 +128,14 @@ pub const BASELINE: Engine = Engine {
     bits: baseline::offered_bits,
     attempt: baseline::attempt,
     settle: baseline::settle,
+    list: baseline::list,
     log: baseline::log,
     log_index: baseline::log_index,
 };
 
 impl Engine {
-    /// Makes the call; image or log is lent for writing only where the call may write.
-    pub fn make(&self, call: Call, plan: &[u8], lent: &mut Lent) -> Reply {
+    /// Makes the call; image or log is lent for writing only where the call may write, and a list for reading.
+    pub fn make(&self, call: Call, plan: &[u8], lent: &mut Lent, list: &mut Lent) -> Reply {
         Reply::Answer(match call {
             Call::Check => (self.check)(plan),
             Call::Start => (self.start)(plan, lent.bytes_mut()),
@@ -128,6 +143,7 @@ impl Engine {
             Call::Bits => return Reply::Bits((self.bits)(plan, lent.locked())),
             Call::Try(number) => (self.attempt)(plan, lent.bytes_mut(), number),
             Call::Settle => (self.settle)(plan, lent.bytes_mut()),
+            Call::List(_) => (self.list)(plan, lent.bytes_mut(), list.locked()),
             Call::Log => (self.log)(plan, lent.locked()),
             Call::LogIndex => return Reply::Index((self.log_index)(plan, lent.locked())),
         })

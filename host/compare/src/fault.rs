@@ -48,6 +48,7 @@ pub struct Case {
     pub plan: Range<usize>,
     /// The image or the log.
     pub lent: Range<usize>,
+    pub list: Option<Range<usize>>,
 }
 
 /// Null while no call is made.
@@ -104,15 +105,23 @@ fn say(text: &mut Text, case: &Case, address: usize) -> fmt::Result {
         ": {call:?} of the {engine}, with the {end:?} end of plan"
     )?;
     let lends = call.lends();
-    write!(text, " ({} bytes) and {lends}", case.plan.len())?;
-    writeln!(text, " ({}) at a guard page", case.lent.len())?;
+    write!(text, " ({} bytes), {lends}", case.plan.len())?;
+    write!(text, " ({})", case.lent.len())?;
+    if let Some(list) = &case.list {
+        write!(text, ", list ({})", list.len())?;
+    }
+    writeln!(text, " at a guard page")?;
     write!(text, "compare: the run stops: the call ")?;
-    for (name, lent) in [("plan", &case.plan), (lends, &case.lent)] {
+    let list = case.list.iter().map(|list| ("list", list));
+    for (name, lent) in [("plan", &case.plan), (lends, &case.lent)]
+        .into_iter()
+        .chain(list)
+    {
         if let Some((done, bytes, place)) = doing(lent, address) {
             return writeln!(text, "{done} {bytes} {place} the {name}");
         }
     }
-    writeln!(text, "read or wrote at {address:#x}, far from both")
+    writeln!(text, "read or wrote at {address:#x}, far from all of them")
 }
 
 /// What was done about a lent buffer, where the address lies in or near it.

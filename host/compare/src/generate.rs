@@ -295,7 +295,7 @@ fn choose_oracles(rng: &mut Rng, draft: &mut Draft, sizes: &Sizes) {
 
 /// The draft as it is liveliest after a few ways to renew it, or after the first that makes it lively enough.
 fn liveliest(rng: &mut Rng, draft: &mut Draft, renew: impl Fn(&mut Rng, &mut Draft)) {
-    let wanted = rng.pick(&[0, 1, 1, 2, 3, 3, 3, 3, 3, 3]);
+    let wanted = rng.pick(&[0, 1, 1, 2, 3, 3, 3, 4, 4, 4]);
     let mut best = (0, draft.clone());
     for _ in 0..10 {
         renew(rng, draft);
@@ -311,19 +311,29 @@ fn liveliest(rng: &mut Rng, draft: &mut Draft, renew: impl Fn(&mut Rng, &mut Dra
     *draft = best.1;
 }
 
-/// 0 for a bad start, 1 for a good one, 2 where moves from it end bad, 3 where only some do.
+/// 0 for a bad start, 1 for a good one, 2 where moves from it end bad, 3 where only some do, 4 where one goes to verdict 1 and another one from
+/// there on to a good state.
 fn liveliness(plan: &Plan) -> usize {
     let start = Lane::start(plan);
     if !start.good(plan) {
         return 0;
     }
-    let ends = (0..plan.interactions.len()).filter_map(|i| start.after(plan, i));
-    let (good, bad): (Vec<Lane>, Vec<Lane>) = ends.partition(|end| end.good(plan));
+    let (good, bad): (Vec<Lane>, Vec<Lane>) = ends(plan, &start).partition(|end| end.good(plan));
+    let leads_back = |half: &Lane| ends(plan, half).any(|end| end.good(plan));
+    let mut halves = bad.iter().filter(|end| end.verdict(plan) == 1);
+    if halves.any(leads_back) {
+        return 4;
+    }
     match (good.is_empty(), bad.is_empty()) {
         (_, true) => 1,
         (true, false) => 2,
         (false, false) => 3,
     }
+}
+
+/// What the moves from a lane lead to.
+fn ends<'a>(plan: &'a Plan, lane: &'a Lane) -> impl Iterator<Item = Lane> + 'a {
+    (0..plan.interactions.len()).filter_map(|i| lane.after(plan, i))
 }
 
 #[cfg(test)]

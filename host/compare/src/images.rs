@@ -106,7 +106,7 @@ pub fn redressed(rng: &mut Rng, image: &[u8], draft: &Draft) -> Vec<u8> {
     bytes
 }
 
-/// The image with other marks, where its state is lawful: all of them true, or one of these taken away.
+/// The image with other marks, where its state is lawful: all of them true, one of these taken away, or one of an enabled interaction added.
 pub fn marked(rng: &mut Rng, image: &[u8], draft: &Draft) -> Vec<u8> {
     let mut bytes = image.to_vec();
     let plan = Plan::read(&draft.bytes()).expect("a generated plan is lawful");
@@ -117,6 +117,9 @@ pub fn marked(rng: &mut Rng, image: &[u8], draft: &Draft) -> Vec<u8> {
     if !marked.is_empty() && rng.chance(35) {
         let marks = Vec::from_iter(marked.iter().copied());
         marked.remove(&rng.pick(&marks));
+    } else if !marked.is_empty() && rng.chance(15) {
+        let enabled = Vec::from_iter(lane.enabled(&plan));
+        marked.insert(rng.pick(&enabled));
     }
     bytes[16..24].copy_from_slice(&image::bits(&marked).to_le_bytes());
     bytes

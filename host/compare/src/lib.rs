@@ -10,9 +10,17 @@ pub mod difference;
 pub mod engines;
 pub mod fault;
 pub mod generate;
+pub mod halves;
 pub mod images;
+#[cfg(test)]
+mod lenient;
 pub mod lent;
+pub mod list;
+pub mod lists;
+pub mod loads;
 pub mod logs;
+mod named;
+pub mod older;
 pub mod oracle;
 pub mod pages;
 #[cfg(test)]
@@ -28,5 +36,7 @@ pub mod tally;
 pub mod words;
 #[cfg(test)]
 mod wrapping;
+#[cfg(test)]
+mod wrong_lists;
 #[cfg(test)]
 mod wrong_logs;

@@ -5,54 +5,29 @@ use reference::lane::Lane;
 use reference::log::{self, Wrong};
 use reference::plan::Plan;
 
-#[derive(Clone, Copy, Debug, PartialEq, Eq)]
-pub enum Shown {
-    Empty,
-    Accepted,
-    OfSequence,
-    BelowBad,
-    NoSuchMove,
-    Greatest,
-    NotEnabled,
-    Outranked,
-    OutrankedAndBad,
-    Bad,
-    First,
-    Later,
-    Far,
-    OddLog,
-    OddAndBadStart,
-    BadStart,
-    EmptyAndBadStart,
-    Plan,
-}
+use crate::named::named;
 
-pub const SHOWN: [(Shown, &str); 18] = [
-    (Shown::Empty, "accepted, and empty"),
-    (Shown::Accepted, "accepted, with entries"),
-    (Shown::OfSequence, "accepted, the moves of a sequence"),
-    (Shown::BelowBad, "accepted, with an entry below a bad one"),
-    (Shown::NoSuchMove, "wrong by 16"),
-    (Shown::Greatest, "wrong by 16, an entry of 65535"),
-    (Shown::NotEnabled, "wrong by 17"),
-    (Shown::Outranked, "wrong by 18"),
-    (
-        Shown::OutrankedAndBad,
-        "wrong by 18, and the entry ends bad too",
-    ),
-    (Shown::Bad, "wrong, ends bad"),
-    (Shown::First, "wrong in the first entry"),
-    (Shown::Later, "wrong in a later entry"),
-    (Shown::Far, "wrong past entry 255"),
-    (Shown::OddLog, "refused with 21"),
-    (
-        Shown::OddAndBadStart,
-        "refused with 21, and the start is bad too",
-    ),
-    (Shown::BadStart, "refused with 15"),
-    (Shown::EmptyAndBadStart, "refused with 15, and empty"),
-    (Shown::Plan, "refused with a number of the plan"),
-];
+named! {
+    Shown, SHOWN:
+    Empty = "accepted, and empty",
+    Accepted = "accepted, with entries",
+    OfSequence = "accepted, the moves of a sequence",
+    BelowBad = "accepted, with an entry below a bad one",
+    NoSuchMove = "wrong by 16",
+    Greatest = "wrong by 16, an entry of 65535",
+    NotEnabled = "wrong by 17",
+    Outranked = "wrong by 18",
+    OutrankedAndBad = "wrong by 18, and the entry ends bad too",
+    Bad = "wrong, ends bad",
+    First = "wrong in the first entry",
+    Later = "wrong in a later entry",
+    Far = "wrong past entry 255",
+    OddLog = "refused with 21",
+    OddAndBadStart = "refused with 21, and the start is bad too",
+    BadStart = "refused with 15",
+    EmptyAndBadStart = "refused with 15, and empty",
+    Plan = "refused with a number of the plan",
+}
 
 /// What the answer to a log shows.
 pub fn shown(plan: &[u8], log: &[u8], answer: Answer) -> Vec<Shown> {

@@ -26,7 +26,7 @@ fn rewrite(bytes: &[u8], at: usize) {
 
 /// Each fault as an engine of that name, with the end at which it is seen and what is said of it.
 #[rustfmt::skip]
-fn faults() -> [(Engine, &'static str, &'static str); 9] {
+fn faults() -> [(Engine, &'static str, &'static str); 12] {
     let engine = |name| Engine { name, ..LIBRARY };
     [
         (Engine { check: |p| { read(p, p.len() as isize); yard::check(p) }, ..engine("read past the plan") },
@@ -47,6 +47,12 @@ fn faults() -> [(Engine, &'static str, &'static str); 9] {
             "Front", "read or wrote a byte 1 before the log"),
         (Engine { log: |p, l| { rewrite(l, 1); yard::log(p, l) }, ..engine("write to the log") },
             "Front", "wrote to byte 1 of the read-only pages of the log"),
+        (Engine { list: |p, b, l| { read(l, l.len() as isize); yard::list(p, b, l) }, ..engine("read past the list") },
+            "Back", "read or wrote a byte 1 behind the list"),
+        (Engine { list: |p, b, l| { read(l, -1); yard::list(p, b, l) }, ..engine("read before the list") },
+            "Front", "read or wrote a byte 1 before the list"),
+        (Engine { list: |p, b, l| { rewrite(l, 1); yard::list(p, b, l) }, ..engine("write to the list") },
+            "Front", "wrote to byte 1 of the read-only pages of the list"),
     ]
 }
 

@@ -6,63 +6,24 @@ use reference::lane::{Lane, Moves};
 use reference::plan::Plan;
 
 use crate::engines::Call;
+use crate::named::named;
 
-#[derive(Clone, Copy, Debug, PartialEq, Eq)]
-pub enum Fact {
-    Offered,
-    Committed,
-    Cancelled,
-    Outranked,
-    Marked,
-    FalseMark,
-    TrueMark,
-    BelowBad,
-    PassedOver,
-    Between,
-    PennedBelow,
-    PennedFurther,
-    WithoutMarks,
+named! {
+    Fact, FACTS:
+    Offered = "offered, with a marked one above",
+    Committed = "tried and committed, with a marked one above",
+    Cancelled = "tried and cancelled, with a marked one above",
+    Outranked = "18, with a marked one above as well",
+    Marked = "19, with a marked one above",
+    FalseMark = "14 by an unmarked enabled one above a mark alone",
+    TrueMark = "not 14, with a marked one above a mark",
+    BelowBad = "settled on a move below a bad one",
+    PassedOver = "settled past a lower number that ends good",
+    Between = "settled on a number between a lower move and a good one above that",
+    PennedBelow = "penned, and a move with an unmarked one above is marked",
+    PennedFurther = "penned, with some marked before and others not",
+    WithoutMarks = "settled with marks, and the same without them",
 }
-
-pub const FACTS: [(Fact, &str); 13] = [
-    (Fact::Offered, "offered, with a marked one above"),
-    (
-        Fact::Committed,
-        "tried and committed, with a marked one above",
-    ),
-    (
-        Fact::Cancelled,
-        "tried and cancelled, with a marked one above",
-    ),
-    (Fact::Outranked, "18, with a marked one above as well"),
-    (Fact::Marked, "19, with a marked one above"),
-    (
-        Fact::FalseMark,
-        "14 by an unmarked enabled one above a mark alone",
-    ),
-    (Fact::TrueMark, "not 14, with a marked one above a mark"),
-    (Fact::BelowBad, "settled on a move below a bad one"),
-    (
-        Fact::PassedOver,
-        "settled past a lower number that ends good",
-    ),
-    (
-        Fact::Between,
-        "settled on a number between a lower move and a good one above that",
-    ),
-    (
-        Fact::PennedBelow,
-        "penned, and a move with an unmarked one above is marked",
-    ),
-    (
-        Fact::PennedFurther,
-        "penned, with some marked before and others not",
-    ),
-    (
-        Fact::WithoutMarks,
-        "settled with marks, and the same without them",
-    ),
-];
 
 /// A lane in a lawful state in which an enabled interaction lies above another; its marks may be false.
 pub struct Ranked {
@@ -73,10 +34,10 @@ pub struct Ranked {
 }
 
 impl Ranked {
-    /// None where the call reads no image, where plan or image has another fault than its marks, and where no enabled interaction lies above
-    /// another: the ranks then play no part.
+    /// None where the call reads no image, for a list, to which marks are nothing, where plan or image has another fault than its marks, and
+    /// where no enabled interaction lies above another: the ranks then play no part.
     pub fn read(call: Call, plan: &[u8], image: &[u8]) -> Option<Ranked> {
-        if matches!(call, Call::Check | Call::Start) || call.is_of_log() {
+        if matches!(call, Call::Check | Call::Start | Call::List(_)) || call.is_of_log() {
             return None;
         }
         let plan = Plan::read(plan).ok()?;

@@ -56,7 +56,7 @@ impl Run {
         log_of(&self.moves)
     }
 
-    /// Whether a move lies below an enabled one; that one ends bad.
+    /// Whether a move lies below an enabled one; that one does not end good.
     pub fn is_below_bad(&self) -> bool {
         let moves = self.moves.iter().enumerate();
         let is_below = |(at, &low): (usize, &usize)| {
@@ -123,7 +123,7 @@ pub fn log_of(moves: &[usize]) -> Vec<u8> {
 }
 
 /// A number that no interaction has, at most 65535.
-fn past(rng: &mut Rng, interactions: usize) -> usize {
+pub fn past(rng: &mut Rng, interactions: usize) -> usize {
     match rng.below(6) {
         0 | 1 => interactions,
         2 => rng.below(interactions) | 1 << rng.between(6, 15),

@@ -1,5 +1,6 @@
 //! Random sequences of calls on random plans, held against the reference and the book.
 
+mod lists;
 mod logs;
 
 use std::ops::Range;
@@ -13,11 +14,13 @@ use reference::plan::Plan;
 use crate::checked::{self, Checked, Comparer, Outcome};
 use crate::difference::Difference;
 use crate::engines::{Call, Reply};
+use crate::generate::Generated;
 use crate::lent::{LentPlan, Shelf};
+use crate::lists::Listed;
 use crate::ranking::Fact;
 use crate::rng::Rng;
 use crate::tally::Tally;
-use crate::{damage, generate, images};
+use crate::{damage, generate, images, older};
 
 /// The marks of an image.
 const MARKS: Range<usize> = 16..24;
@@ -26,6 +29,8 @@ pub struct Session {
     rng: Rng,
     pub tally: Tally,
     comparer: Comparer,
+    /// Whether lists are handed in, and plans may have verdict 1.
+    has_lists: bool,
     plans: Shelf,
     /// An image that another plan reached.
     other: Vec<u8>,
@@ -38,6 +43,7 @@ impl Session {
         Session {
             rng: Rng::new(seed),
             tally: Tally::default(),
+            has_lists: comparer.has_lists(),
             comparer,
             plans: Shelf::default(),
             other: vec![0; IMAGE_BYTES],
@@ -53,9 +59,28 @@ impl Session {
         Ok(())
     }
 
+    /// What never occurred, and should have.
+    pub fn missing(&self) -> Vec<String> {
+        self.tally.missing(self.has_lists)
+    }
+
+    /// Whether all engines know what a plan may hold.
+    fn takes(&self, plan: &[u8]) -> bool {
+        self.has_lists || !older::has_verdict_1(plan)
+    }
+
+    fn new_plan(&mut self) -> Generated {
+        loop {
+            let made = generate::plan(&mut self.rng);
+            if self.takes(&made.draft.bytes()) {
+                return made;
+            }
+        }
+    }
+
     /// One lawful plan: a sequence of calls with others between, then calls on damaged plans.
     fn round(&mut self) -> Checked<()> {
-        let made = generate::plan(&mut self.rng);
+        let made = self.new_plan();
         self.tally.plan(&made);
         let plan = self.plans.lend(&made.draft.bytes());
         let mut image = vec![0; IMAGE_BYTES];
@@ -87,20 +112,17 @@ impl Session {
         let (mut calls, mut moves) = (0, Vec::new());
         for _ in 0..self.rng.pick(&[4, 12, 12, 30, 60]) {
             self.detour(draft, plan, &image)?;
-            let call = self.next_call(draft.interactions.len(), offer);
+            let call = self.next_call(draft, plan, &image, offer);
             let outcome = self.call(plan, &image, call)?;
             self.hold_against(&mut book, plan, &image, call, &outcome)?;
             image = outcome.image;
             calls += 1;
-            match outcome.answer {
-                Answer::Accepted => {
-                    offer = outcome.bits;
-                    if call == Call::Start {
-                        moves.clear();
-                    }
-                }
-                Answer::Committed(number) => moves.push(number),
-                Answer::Stalled | Answer::Penned if self.rng.chance(50) => break,
+            match (call, outcome.answer) {
+                (Call::Start, Answer::Accepted) => moves.clear(),
+                (_, Answer::Accepted) => offer = outcome.bits,
+                (Call::List(list), Answer::Committed(_)) => moves.extend(list.entries()),
+                (_, Answer::Committed(number)) => moves.push(number),
+                (_, Answer::Stalled | Answer::Penned) if self.rng.chance(50) => break,
                 _ => {}
             }
         }
@@ -111,30 +133,44 @@ impl Session {
 
     fn call(&mut self, plan: &LentPlan, image: &[u8], call: Call) -> Checked<Outcome> {
         let outcome = self.comparer.compare(&mut self.tally, plan, image, call)?;
-        if call == Call::Settle && outcome.answer.kind() != yard::REFUSED {
-            self.settle_unmarked(plan, image, &outcome)?;
+        let ignores_marks = matches!(call, Call::Settle | Call::List(_));
+        if ignores_marks && outcome.answer.kind() != yard::REFUSED {
+            self.call_unmarked(plan, image, call, &outcome)?;
         }
         Ok(outcome)
     }
 
-    /// Settles without the marks, as before the tries that were cancelled: answer and image must be the same.
-    fn settle_unmarked(&mut self, plan: &LentPlan, image: &[u8], outcome: &Outcome) -> Checked<()> {
+    /// Settles or hands in the list without the marks, as before the tries that were cancelled: answer and image must be the same, but for the
+    /// marks that a cancelled list leaves.
+    fn call_unmarked(
+        &mut self,
+        plan: &LentPlan,
+        image: &[u8],
+        call: Call,
+        outcome: &Outcome,
+    ) -> Checked<()> {
         let mut unmarked = image.to_vec();
         unmarked[MARKS].fill(0);
         if unmarked == image {
             return Ok(());
         }
-        let call = Call::Settle;
         let other = self
             .comparer
             .compare(&mut self.tally, plan, &unmarked, call)?;
-        self.tally.fact(Fact::WithoutMarks);
-        let first_byte = checked::first_difference(&outcome.image, &other.image);
+        match call {
+            Call::List(_) => self.tally.listed(Listed::WithoutMarks),
+            _ => self.tally.fact(Fact::WithoutMarks),
+        }
+        let mut expected = other.image;
+        if matches!(other.answer, Answer::Cancelled(_)) {
+            expected[MARKS].copy_from_slice(&image[MARKS]);
+        }
+        let first_byte = checked::first_difference(&outcome.image, &expected);
         if outcome.answer == other.answer && first_byte.is_none() {
             return Ok(());
         }
         Err(Box::new(Difference {
-            what: "settling without the marks",
+            what: "the same call without the marks",
             call,
             call_number: self.tally.calls,
             said: ("all with the marks", Reply::of(call, outcome.answer, 0)),
@@ -164,7 +200,7 @@ impl Session {
         Ok(())
     }
 
-    /// What is on offer in the image, or in one of another state, with other marks, and a call on it that often tries one of these.
+    /// What is on offer in the image, or in one of another state, with other marks, and a call on it that often tries one of these or hands in a list.
     fn marked_image(&mut self, draft: &Draft, plan: &LentPlan, image: &[u8]) -> Checked<()> {
         let state = match self.rng.chance(50) {
             true => images::redressed(&mut self.rng, image, draft),
@@ -172,7 +208,10 @@ impl Session {
         };
         let marked = images::marked(&mut self.rng, &state, draft);
         let offer = self.call(plan, &marked, Call::Bits)?.bits;
-        let call = self.next_call(draft.interactions.len(), offer);
+        let call = match self.has_lists && self.rng.chance(30) {
+            true => Call::List(self.next_list(plan, &marked)),
+            false => self.next_call(draft, plan, &marked, offer),
+        };
         self.call(plan, &marked, call)?;
         Ok(())
     }
@@ -180,6 +219,9 @@ impl Session {
     /// A check of a damaged plan, and another call with it.
     fn damaged_plan(&mut self, draft: &Draft, image: &[u8]) -> Checked<()> {
         let bytes = damage::plan(&mut self.rng, draft);
+        if !self.takes(&bytes) {
+            return Ok(());
+        }
         let plan = self.plans.lend(&bytes);
         self.call(&plan, image, Call::Check)?;
         if self.rng.chance(5) {
@@ -195,18 +237,19 @@ impl Session {
     }
 
     fn any_call(&mut self, draft: &Draft, plan: &LentPlan, image: &[u8]) -> Checked<Outcome> {
-        let call = self.next_call(draft.interactions.len(), 0);
+        let call = self.next_call(draft, plan, image, 0);
         self.call(plan, image, call)
     }
 
-    /// A call for a sequence; a try is often of a move that was on offer.
-    fn next_call(&mut self, interactions: usize, offer: u64) -> Call {
+    /// A call for a sequence; a try is often of a move that was on offer, and a list often of moves that are allowed.
+    fn next_call(&mut self, draft: &Draft, plan: &LentPlan, image: &[u8], offer: u64) -> Call {
         match self.rng.below(100) {
             0..=2 => Call::Start,
             3..=8 => Call::Offered,
-            9..=19 => Call::Bits,
-            20..=44 => Call::Settle,
-            _ => Call::Try(self.number(interactions, offer)),
+            9..=17 => Call::Bits,
+            18..=38 => Call::Settle,
+            39..=53 if self.has_lists => Call::List(self.next_list(plan, image)),
+            _ => Call::Try(self.number(draft.interactions.len(), offer)),
         }
     }
 
@@ -257,7 +300,7 @@ impl Session {
 #[cfg(test)]
 mod tests {
     use super::*;
-    use crate::engines::BASELINE;
+    use crate::engines::{Engine, BASELINE};
 
     /// The C baseline stands in the library's place too.
     #[test]
@@ -267,6 +310,24 @@ mod tests {
             difference.report(2);
             panic!("a difference");
         }
-        assert_eq!(session.tally.missing(), [""; 0]);
+        assert_eq!(session.missing(), [""; 0]);
+    }
+
+    /// As an older build that has no lists and refuses verdict 1.
+    #[test]
+    fn an_older_build_without_lists_is_compared_in_all_else() {
+        let older = Engine {
+            name: "without lists",
+            check: |plan| match older::has_verdict_1(plan) {
+                true => panic!("verdict 1"),
+                false => (BASELINE.check)(plan),
+            },
+            list: |_, _, _| yard::answer(0),
+            ..BASELINE
+        };
+        let comparer = Comparer::with(2, BASELINE).and_older(older);
+        let mut session = Session::new(2, comparer);
+        assert!(session.compare(40_000).is_ok());
+        assert_eq!(session.missing(), [""; 0]);
     }
 }

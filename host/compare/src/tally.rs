@@ -2,19 +2,23 @@
 
 use std::fmt;
 
-use reference::answer::Answer;
+use reference::answer::{Answer, Refusal};
 use reference::draft::Draft;
 use reference::sums::Past;
 
 use crate::causes::{Cause, CAUSES};
 use crate::engines::Call;
 use crate::generate::Generated;
+use crate::halves::{Half, HALVES};
+use crate::lists::{Listed, LISTED};
 use crate::logs::{Shown, SHOWN};
 use crate::ranking::{Fact, FACTS};
 
-const CALLS: [&str; 8] = [
-    "check", "start", "offered", "bits", "try", "settle", "log", "index",
+const CALLS: [&str; 9] = [
+    "check", "start", "offered", "bits", "try", "settle", "list", "log", "index",
 ];
+/// One past the highest refusal, that of a list.
+const REFUSALS: usize = Refusal::BadList as usize + 1;
 const KINDS: [&str; 7] = [
     "accepted",
     "committed",
@@ -44,12 +48,16 @@ const SIZES: [&str; 11] = [
 pub struct Tally {
     pub calls: u64,
     answers: [[u64; KINDS.len()]; CALLS.len()],
-    refusals: [u64; 22],
+    refusals: [u64; REFUSALS],
     causes: [u64; CAUSES.len()],
     facts: [u64; FACTS.len()],
     shown: [u64; SHOWN.len()],
+    listed: [u64; LISTED.len()],
+    halves: [u64; HALVES.len()],
     past: Past,
     plans: u64,
+    /// Those with a state of verdict 1.
+    plans_with_halves: u64,
     largest: [usize; 11],
     book: u64,
     most_moves: usize,
@@ -76,6 +84,14 @@ impl Tally {
         self.shown[shown as usize] += 1;
     }
 
+    pub fn listed(&mut self, listed: Listed) {
+        self.listed[listed as usize] += 1;
+    }
+
+    pub fn half(&mut self, half: Half) {
+        self.halves[half as usize] += 1;
+    }
+
     /// Counts the results of one call that went past an end.
     pub fn past(&mut self, past: Past) {
         let counts = self.past.as_flattened_mut().iter_mut();
@@ -86,6 +102,7 @@ impl Tally {
 
     pub fn plan(&mut self, made: &Generated) {
         self.plans += 1;
+        self.plans_with_halves += u64::from(has_halves(&made.draft));
         for (largest, size) in self.largest.iter_mut().zip(sizes(made)) {
             *largest = size.max(*largest);
         }
@@ -97,19 +114,21 @@ impl Tally {
         self.most_moves = moves.max(self.most_moves);
     }
 
-    /// The answer kinds, refusals, causes, facts and results past an end that never occurred.
-    pub fn missing(&self) -> Vec<String> {
+    /// The answer kinds, refusals, causes, facts and results past an end that never occurred; those of lists and of verdict 1 where there are lists.
+    pub fn missing(&self, has_lists: bool) -> Vec<String> {
         let kinds = (0..KINDS.len()).filter(|&kind| self.answers.iter().all(|row| row[kind] == 0));
-        let refusals = (1..22).filter(|&n| self.refusals[n] == 0);
-        let never = |(name, count): (&str, &u64)| (*count == 0).then(|| name.to_string());
-        kinds
+        let no_list = |n: &usize| *n != Refusal::BadList as usize;
+        let refusals = (1..REFUSALS).filter(|n| has_lists || no_list(n));
+        let refusals = refusals.filter(|&n| self.refusals[n] == 0);
+        let missing = kinds
             .map(|kind| KINDS[kind].to_string())
             .chain(refusals.map(|n| format!("refusal {n}")))
-            .chain(names(&CAUSES).zip(&self.causes).filter_map(never))
-            .chain(names(&FACTS).zip(&self.facts).filter_map(never))
-            .chain(names(&SHOWN).zip(&self.shown).filter_map(never))
-            .chain(self.never_past())
-            .collect()
+            .chain(never(CAUSES, &self.causes))
+            .chain(never(FACTS, &self.facts))
+            .chain(never(SHOWN, &self.shown))
+            .chain(self.never_past());
+        let of_lists = never(LISTED, &self.listed).chain(never(HALVES, &self.halves));
+        missing.chain(of_lists.filter(|_| has_lists)).collect()
     }
 
     /// The ends that no result of an operation went past.
@@ -122,19 +141,23 @@ impl Tally {
     }
 }
 
-fn names<T>(list: &'static [(T, &'static str)]) -> impl Iterator<Item = &'static str> {
-    list.iter().map(|(_, name)| *name)
+/// The names whose count is 0.
+fn never<'a>(names: &'a [&str], counts: &'a [u64]) -> impl Iterator<Item = String> + 'a {
+    let counted = names.iter().zip(counts);
+    let never = counted.filter(|(_, &count)| count == 0);
+    never.map(|(name, _)| name.to_string())
+}
+
+/// Whether an oracle has a state of verdict 1.
+fn has_halves(draft: &Draft) -> bool {
+    let mut states = draft.oracle.iter().chain(draft.added.iter().flatten());
+    states.any(|state| state.verdict == 1)
 }
 
 /// A line for each name with its count.
-fn listed<'a>(
-    f: &mut fmt::Formatter,
-    title: &str,
-    names: impl Iterator<Item = &'a str>,
-    counts: &[u64],
-) -> fmt::Result {
+fn listed(f: &mut fmt::Formatter, title: &str, names: &[&str], counts: &[u64]) -> fmt::Result {
     write!(f, "\n\n{title}")?;
-    for (name, count) in names.zip(counts) {
+    for (name, count) in names.iter().zip(counts) {
         write!(f, "\n  {name}: {count}")?;
     }
     Ok(())
@@ -186,14 +209,18 @@ impl fmt::Display for Tally {
             let gap = if number % 7 == 1 { "\n " } else { "" };
             write!(f, "{gap} {number:2}:{count:<7}")?;
         }
-        listed(f, "by added oracles", names(&CAUSES), &self.causes)?;
-        listed(f, "by ranks and marks", names(&FACTS), &self.facts)?;
-        listed(f, "logs", names(&SHOWN), &self.shown)?;
+        listed(f, "by added oracles", CAUSES, &self.causes)?;
+        listed(f, "by ranks and marks", FACTS, &self.facts)?;
+        listed(f, "lists", LISTED, &self.listed)?;
+        listed(f, "at verdict 1", HALVES, &self.halves)?;
+        listed(f, "logs", SHOWN, &self.shown)?;
         write!(f, "\n\nresults past the upper and the lower end")?;
         for (name, [upper, lower]) in SUMS.iter().zip(self.past) {
             write!(f, "\n  {name}: {upper}, {lower}")?;
         }
-        write!(f, "\n\n{} accepted plans; the largest sizes:", self.plans)?;
+        write!(f, "\n\n{} accepted plans", self.plans)?;
+        write!(f, ", {} with verdict 1", self.plans_with_halves)?;
+        write!(f, "; the largest sizes:")?;
         for (n, (name, size)) in SIZES.iter().zip(self.largest).enumerate() {
             write!(f, "{}{name} {size}", if n % 5 == 0 { "\n  " } else { ", " })?;
         }

@@ -12,6 +12,7 @@ yard::engine!(
     "wrapping_offered_bits",
     "wrapping_try",
     "wrapping_settle",
+    "wrapping_list",
     "wrapping_log",
     "wrapping_log_index"
 );
@@ -24,6 +25,7 @@ const WRAPPING: Engine = Engine {
     bits: offered_bits,
     attempt,
     settle,
+    list,
     log,
     log_index,
 };

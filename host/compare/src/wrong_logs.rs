@@ -125,13 +125,18 @@ fn each_engine_that_judges_logs_wrongly_is_found_out() {
         index("index of one byte", index_of_a_byte),
         index("index of an accepted log", index_of_accepted),
     ] {
-        for comparer in [
-            Comparer::with(2, engine),
-            Comparer::with(2, BASELINE).and_older(engine),
-        ] {
-            let found = Session::new(2, comparer).compare(20_000).err();
-            let said = found.map(|difference| difference.said.0);
-            assert_eq!(said, Some(engine.name));
-        }
+        assert_found_out(engine);
+    }
+}
+
+/// A faulty engine is found out and named, as the library and as the older build.
+pub(crate) fn assert_found_out(engine: Engine) {
+    for comparer in [
+        Comparer::with(2, engine),
+        Comparer::with(2, BASELINE).and_older(engine),
+    ] {
+        let found = Session::new(2, comparer).compare(20_000).err();
+        let said = found.map(|difference| difference.said.0);
+        assert_eq!(said, Some(engine.name));
     }
 }

@@ -32,6 +32,12 @@ impl Lane {
         yard::settle(&self.plan, &mut self.image)
     }
 
+    /// Hands in a list of moves.
+    pub fn list(&mut self, moves: &[u16]) -> Answer {
+        let bytes: Vec<u8> = moves.iter().flat_map(|n| n.to_le_bytes()).collect();
+        yard::list(&self.plan, &mut self.image, &bytes)
+    }
+
     /// The state of an oracle: 0 is the first, the added ones follow.
     pub fn oracle(&self, oracle: usize) -> u8 {
         self.image[8 + oracle]

@@ -12,10 +12,11 @@ pub struct Variable(pub u8);
 #[derive(Clone, Copy, Debug, PartialEq, Eq)]
 pub struct Interaction(pub u8);
 
-/// The verdicts that a safety property yields.
+/// Bad and true for good are final. No lane is left at currently false, but a list may pass through it.
 #[derive(Clone, Copy)]
 pub enum Verdict {
     Bad = 0,
+    CurrentlyFalse = 1,
     CurrentlyTrue = 2,
     TrueForGood = 3,
 }

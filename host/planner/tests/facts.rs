@@ -4,7 +4,7 @@ use planner::drive::{drive, Disabler};
 use planner::lane::Lane;
 use planner::plan::Plan;
 use planner::plans::{
-    chain, chains, maximal, philosophers, robots, sample, sums, tasks, wet_bales,
+    chain, chains, maximal, philosophers, robots, sample, split_skip, sums, tasks, wet_bales,
 };
 use planner::rng::Rng;
 use reference::calls;
@@ -346,4 +346,74 @@ fn no_sum_of_the_ledger_goes_past_an_end() {
     });
     assert!(cancelled > 50);
     assert_eq!(past, Past::default());
+}
+
+const TIP_LEFT: u16 = 0;
+const TIP_RIGHT: u16 = 1;
+const ARRIVE: u16 = 2;
+const LEAVE: u16 = 3;
+
+/// Left and right: what is in the skip, then what the ticket says.
+fn halves(lane: &Lane) -> [i32; 4] {
+    [0, 1, 2, 3].map(|v| lane.value(v))
+}
+
+#[test]
+fn settling_and_tries_never_empty_the_skip() {
+    let mut lane = lane(split_skip::plan());
+    for _ in 0..5 {
+        commit(&mut lane, &[ARRIVE.into()]);
+        for tip in [TIP_LEFT, TIP_RIGHT].map(u32::from) {
+            assert_eq!(lane.attempt(tip), answer(CANCELLED, tip));
+        }
+        assert_eq!(settled(&mut lane, 3), [LEAVE, ARRIVE, LEAVE].map(u32::from));
+        assert_eq!(halves(&lane), [1240, 860, 0, 0]);
+    }
+}
+
+#[test]
+fn a_list_empties_both_halves_through_verdict_1() {
+    for moves in [[TIP_LEFT, TIP_RIGHT], [TIP_RIGHT, TIP_LEFT]] {
+        let mut lane = lane(split_skip::plan());
+        commit(&mut lane, &[ARRIVE.into()]);
+        let before = lane.image;
+        // One half alone is not yet good.
+        assert_eq!(lane.list(&moves[..1]), answer(CANCELLED, 1));
+        assert_eq!(lane.image, before);
+        assert_eq!(lane.list(&moves), answer(COMMITTED, 2));
+        assert_eq!(halves(&lane), [0, 0, 1240, 860]);
+        assert_eq!(settled(&mut lane, 1), [LEAVE.into()]);
+    }
+}
+
+#[test]
+fn a_whole_visit_is_one_list() {
+    let mut lane = lane(split_skip::plan());
+    let visit = [ARRIVE, TIP_LEFT, TIP_RIGHT, LEAVE];
+    for _ in 0..3 {
+        assert_eq!(lane.list(&visit), answer(COMMITTED, 4));
+        assert_eq!(lane.list(&visit.repeat(2)), answer(COMMITTED, 8));
+        assert_eq!(halves(&lane), [0, 0, 1240, 860]);
+    }
+    assert_eq!(lane.list(&visit.repeat(3)), answer(REFUSED, 22));
+}
+
+#[test]
+fn nothing_else_may_be_done_while_one_half_is_weighed() {
+    let mut lane = lane(split_skip::plan());
+    commit(&mut lane, &[ARRIVE.into()]);
+    for other in [TIP_LEFT, ARRIVE, LEAVE] {
+        let moves = [TIP_LEFT, other, TIP_RIGHT];
+        assert_eq!(lane.list(&moves), answer(CANCELLED, 1));
+    }
+}
+
+#[test]
+fn a_full_skip_may_leave_by_settling_and_not_by_a_list() {
+    let mut lane = lane(split_skip::plan());
+    commit(&mut lane, &[ARRIVE.into()]);
+    // Tipping lies above leaving, and leads to a verdict other than 0.
+    assert_eq!(lane.attempt(LEAVE.into()), answer(REFUSED, 18));
+    assert_eq!(lane.list(&[LEAVE]), answer(CANCELLED, 0));
+    assert_eq!(settled(&mut lane, 1), [LEAVE.into()]);
 }

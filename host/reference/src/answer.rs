@@ -18,6 +18,7 @@ pub enum Refusal {
     OtherPlan = 12,
     State = 13,
     FalseMark = 14,
+    BadList = 22,
     OddLog = 21,
     BadStart = 15,
     NoSuchMove = 16,
@@ -40,7 +41,9 @@ pub enum Cause {
 #[derive(Clone, Copy, Debug, PartialEq, Eq)]
 pub enum Answer {
     Accepted,
+    /// The interaction; of a list the number of its entries.
     Committed(usize),
+    /// The interaction; of a list the index of its first entry that is not allowed, the number of entries where only the end is not good.
     Cancelled(usize),
     Stalled,
     Penned,
@@ -63,7 +66,7 @@ impl Answer {
 
     pub fn number(self) -> u32 {
         match self {
-            Answer::Committed(interaction) | Answer::Cancelled(interaction) => interaction as u32,
+            Answer::Committed(number) | Answer::Cancelled(number) => number as u32,
             Answer::Refused(refusal) => refusal as u32,
             Answer::Wrong(cause) => cause as u32,
             Answer::Accepted | Answer::Stalled | Answer::Penned => 0,

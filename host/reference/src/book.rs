@@ -3,15 +3,18 @@
 use crate::answer::{answer_of, Answer, Refusal};
 use crate::image::{self, Stored, IMAGE_BYTES};
 use crate::lane::{self, Lane, Moves};
+use crate::list;
 use crate::plan::Plan;
 
 /// What the book is told of a call.
 #[derive(Clone, Copy, Debug, PartialEq, Eq)]
-pub enum Call {
+pub enum Call<'a> {
     Start,
     Offered,
     Try(u32),
     Settle,
+    /// The bytes of a list.
+    List(&'a [u8]),
 }
 
 pub struct Book {
@@ -41,6 +44,7 @@ impl Book {
             Call::Offered => (Answer::Accepted, self.offered()),
             Call::Try(number) => (answer_of(self.attempt(number)), 0),
             Call::Settle => (self.settle(), 0),
+            Call::List(moves) => (answer_of(self.list(moves)), 0),
         }
     }
 
@@ -86,7 +90,7 @@ impl Book {
             return Err(Refusal::Marked);
         }
         if lane.ends_good(&self.plan, interaction) {
-            Ok(self.list(interaction))
+            Ok(self.commit(interaction))
         } else {
             self.crossed_off.insert(interaction);
             Ok(Answer::Cancelled(interaction))
@@ -97,7 +101,7 @@ impl Book {
         let lane = self.lane();
         let enabled = lane.enabled(&self.plan);
         if let Some(interaction) = lane.settled(&self.plan) {
-            self.list(interaction)
+            self.commit(interaction)
         } else if enabled.is_empty() {
             Answer::Stalled
         } else {
@@ -106,9 +110,23 @@ impl Book {
         }
     }
 
-    fn list(&mut self, interaction: usize) -> Answer {
-        self.done.push(interaction);
-        self.crossed_off.clear();
+    fn list(&mut self, moves: &[u8]) -> Result<Answer, Refusal> {
+        let entries = list::entries(moves)?;
+        if let Err(index) = list::walk(&self.plan, &self.lane(), &entries) {
+            return Ok(Answer::Cancelled(index));
+        }
+        self.add(&entries);
+        Ok(Answer::Committed(entries.len()))
+    }
+
+    fn commit(&mut self, interaction: usize) -> Answer {
+        self.add(&[interaction]);
         Answer::Committed(interaction)
+    }
+
+    /// Adds to the moves done, and empties the set.
+    fn add(&mut self, moves: &[usize]) {
+        self.done.extend(moves);
+        self.crossed_off.clear();
     }
 }

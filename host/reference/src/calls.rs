@@ -3,6 +3,7 @@
 use crate::answer::{answer_of, Answer, Refusal};
 use crate::image::{self, Stored};
 use crate::lane::{self, Lane, Moves};
+use crate::list;
 use crate::plan::Plan;
 
 pub fn check(plan: &[u8]) -> Answer {
@@ -28,6 +29,11 @@ pub fn attempt(plan: &[u8], bytes: &mut [u8], number: u32) -> Answer {
 
 pub fn settle(plan: &[u8], bytes: &mut [u8]) -> Answer {
     answer_of(Examined::read(plan, bytes).map(|examined| examined.settle(bytes)))
+}
+
+/// Hands in a list of moves, which is committed whole or not at all.
+pub fn list(plan: &[u8], bytes: &mut [u8], moves: &[u8]) -> Answer {
+    answer_of(Examined::read(plan, bytes).and_then(|examined| examined.list(bytes, moves)))
 }
 
 fn try_start(plan: &[u8], bytes: &mut [u8]) -> Result<Answer, Refusal> {
@@ -99,6 +105,17 @@ impl Examined {
             self.store(bytes, self.lane.clone(), self.enabled.clone());
             Answer::Penned
         }
+    }
+
+    fn list(&self, bytes: &mut [u8], moves: &[u8]) -> Result<Answer, Refusal> {
+        let entries = list::entries(moves)?;
+        Ok(match list::walk(&self.plan, &self.lane, &entries) {
+            Ok(after) => {
+                self.store(bytes, after, Moves::new());
+                Answer::Committed(entries.len())
+            }
+            Err(index) => Answer::Cancelled(index),
+        })
     }
 
     fn commit(&self, bytes: &mut [u8], interaction: usize) -> Answer {

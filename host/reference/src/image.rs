@@ -1,8 +1,8 @@
 //! The 312 bytes of a lane, with the rules of refusals 11 to 14.
 
 use crate::answer::Refusal;
-use crate::lane::{Lane, Moves};
-use crate::plan::{Plan, NO_PORT};
+use crate::lane::{is_good, Lane, Moves};
+use crate::plan::{OracleState, Plan, NO_PORT};
 
 pub const IMAGE_BYTES: usize = 312;
 const ORACLES: usize = 8;
@@ -120,8 +120,12 @@ fn read_lane(plan: &Plan, bytes: &[u8; IMAGE_BYTES]) -> Lane {
 fn state_lawful(plan: &Plan, bytes: &[u8; IMAGE_BYTES], lane: &Lane) -> bool {
     let components = plan.components.len();
     let mut oracles = plan.oracles.iter().zip(&lane.oracles);
-    let judged =
-        oracles.all(|(oracle, &state)| oracle.get(state).is_some_and(|state| state.verdict != 0));
+    let good = |(oracle, &state): (&Vec<OracleState>, &usize)| {
+        oracle
+            .get(state)
+            .is_some_and(|state| is_good(state.verdict))
+    };
+    let judged = oracles.all(good);
     let used = plan.components.iter().enumerate().all(|(c, component)| {
         lane.locations[c] < component.locations
             && lane.last_ports[c].is_none_or(|port| port < component.ports)
@@ -141,7 +145,7 @@ fn state_lawful(plan: &Plan, bytes: &[u8; IMAGE_BYTES], lane: &Lane) -> bool {
     judged && used && unused
 }
 
-/// The rule of refusal 14: each mark is on an enabled interaction that ends bad, and each enabled one above it is marked too.
+/// The rule of refusal 14: each mark is on an enabled interaction that does not end good, and each enabled one above it is marked too.
 fn marks_true(plan: &Plan, stored: &Stored) -> bool {
     let Stored { lane, marked } = stored;
     let enabled = lane.enabled(plan);

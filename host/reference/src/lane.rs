@@ -8,6 +8,11 @@ use crate::plan::{Plan, Transition};
 /// A set of interactions.
 pub type Moves = BTreeSet<usize>;
 
+/// Whether a lane may be left at a verdict; it may pass through 1 inside a list alone.
+pub fn is_good(verdict: u8) -> bool {
+    verdict >= 2
+}
+
 #[derive(Clone, Debug, PartialEq, Eq)]
 pub struct Lane {
     pub locations: Vec<usize>,
@@ -50,9 +55,9 @@ impl Lane {
             .expect("a plan has an oracle")
     }
 
-    /// Whether the verdict on the lane is not bad.
+    /// Whether the verdict on the lane is 2 or 3.
     pub fn good(&self, plan: &Plan) -> bool {
-        self.verdict(plan) != 0
+        is_good(self.verdict(plan))
     }
 
     pub fn enabled(&self, plan: &Plan) -> Moves {

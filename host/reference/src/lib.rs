@@ -8,6 +8,7 @@ pub mod code;
 pub mod draft;
 pub mod image;
 pub mod lane;
+pub mod list;
 pub mod log;
 pub mod plan;
 pub mod sums;

@@ -356,7 +356,7 @@ fn read_oracle(table: &[u8], row: usize) -> Vec<OracleState> {
     table.chunks_exact(row).map(read).collect()
 }
 
-/// The rule of 9, and for an added oracle of 20.
+/// The rule of 9, and for an added oracle of 20: verdicts 0 and 3 are final, 1 and 2 may lead anywhere.
 fn oracle_lawful(oracle: &[OracleState]) -> bool {
     oracle.iter().all(|state| {
         let for_good = matches!(state.verdict, 0 | 3);
@@ -365,6 +365,6 @@ fn oracle_lawful(oracle: &[OracleState]) -> bool {
                 .get(next)
                 .is_some_and(|follower| !for_good || follower.verdict == state.verdict)
         };
-        matches!(state.verdict, 0 | 2 | 3) && state.next.iter().all(lawful_next)
+        matches!(state.verdict, 0..=3) && state.next.iter().all(lawful_next)
     })
 }

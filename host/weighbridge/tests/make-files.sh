@@ -22,7 +22,7 @@ wet_plan() { patched wet-bales.plan "$@"; }
 wet_image() { patched wet-start.image "$@"; }
 zeros() { head -c "$1" /dev/zero; }
 
-cp "$1"/{sample,wet-bales,maximal-oracles}.plan .
+cp "$1"/{sample,wet-bales,maximal-oracles,split-skip}.plan .
 
 # The starting images of the sample lane and of the wet bales' lane, by the layout of the image.
 { printf 'YARD\x01\x01\x01\x03'; zeros 4; printf '\x07'; zeros 27; printf '\xff%.0s' {1..16}; zeros 256; } > start.image
@@ -84,13 +84,11 @@ plan 8-below-itself.plan 188 02
 plan 8-circle.plan 180 02 , 188 01
 plan 8-not-passed-on.plan 180 02 , 188 04
 # 9: oracle
-plan 9-verdict-1.plan 208 01 00 00
 plan 9-verdict-4.plan 208 04 00 00
 plan 9-next-state.plan 210 02
 plan 9-bad-left.plan 212 00
 plan 9-good-left.plan 208 03
 # 20: an added oracle, whose three states stand from 414 on
-wet_plan 20-verdict-1.plan 423 01
 wet_plan 20-verdict-4.plan 432 04
 wet_plan 20-next-state.plan 415 03
 wet_plan 20-bad-left.plan 440 01
@@ -107,9 +105,9 @@ plan 10-operator.plan 230 08
 plan 10-one-value.plan 222 00 60
 # Two faults: the one that is tested first answers, and 20 is tested before 10.
 plan 4-and-10.plan 51 01 , 206 00
-plan 8-and-9.plan 188 02 , 208 01
-wet_plan 9-and-20.plan 396 01 , 414 01
-wet_plan 20-and-10.plan 414 01 , 446 70
+plan 8-and-9.plan 188 02 , 208 04
+wet_plan 9-and-20.plan 396 04 , 414 04
+wet_plan 20-and-10.plan 414 04 , 446 70
 
 # Lawful variants of the sample.
 plan bad-start.plan 49 02
@@ -118,6 +116,9 @@ plan 1-below-0.plan 188 01
 plan 0-below-1.plan 180 02
 # As 1-below-0.plan, but every move is bad: the proposition is that the last port is not "none yet".
 plan 1-below-0-all-bad.plan 188 01 , 206 02 , 224 ff 50 06 60
+# Verdict 1 where the lane begins, and in an added oracle once a wet bale is brought.
+plan verdict-1.plan 208 01
+wet_plan added-verdict-1.plan 423 01
 plan states-swapped.plan 22 01 , 208 00 00 00 02 01 00
 plan owes-five.plan 56 fb ff ff ff
 { head -c 60 sample.plan; tail -c +109 sample.plan; } > shorter.plan

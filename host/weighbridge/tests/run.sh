@@ -31,7 +31,7 @@ for hex in "$tests"/*.hex; do
   saved=$((saved + 1))
 done
 
-for number in {1..21}; do
+for number in {1..22}; do
   grep -q "^refused $number: " ./*.got || fail "no script is refused with $number"
 done
 

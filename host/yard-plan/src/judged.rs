@@ -145,7 +145,7 @@ pub fn suitable_owners(tables: &Tables, n: usize) -> Vec<usize> {
 }
 
 pub fn is_verdict(verdict: u8) -> bool {
-    matches!(verdict, 0 | 2 | 3)
+    matches!(verdict, 0..=3)
 }
 
 /// Whether states of the verdict lead to such states alone.

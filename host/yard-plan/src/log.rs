@@ -130,7 +130,10 @@ fn why_wrong(plan: &[u8], wrong: &Wrong) -> String {
             let ends = lane
                 .after(&plan, *entry)
                 .map(|after| verdicts(&plan, &after));
-            format!("interaction {entry} ends in a bad state: {}", list(ends))
+            format!(
+                "interaction {entry} does not end in a good state: {}",
+                list(ends)
+            )
         }
     }
 }

@@ -3,11 +3,11 @@
 use std::fmt::Write;
 
 use reference::code;
-use reference::lane::Lane;
+use reference::lane::{is_good, Lane};
 use reference::plan::Plan;
 
 use crate::report::{number, says, ACCEPTED, DIFFERENT};
-use crate::text::oracle_state;
+use crate::text::{oracle_state, verdict_words};
 
 pub const BAD_START: u32 = 15;
 
@@ -17,7 +17,7 @@ pub fn told(plan: &[u8]) -> (String, u8) {
     explained(number(yard::start(plan, &mut scratch)), cause(plan))
 }
 
-/// The library's number and the reference's cause, which go together: 15 and a bad state, or neither.
+/// The library's number and the reference's cause, which go together: 15 and a state that is not good, or neither.
 fn explained(number: u32, cause: Option<(String, String)>) -> (String, u8) {
     let mut output = String::new();
     if number != 0 {
@@ -40,23 +40,24 @@ fn explained(number: u32, cause: Option<(String, String)>) -> (String, u8) {
     (output, DIFFERENT)
 }
 
-/// Why the starting state is bad and what would cure it; none where it is good.
+/// Why the starting state is not good and what would cure it; none where it is.
 pub fn cause(plan: &[u8]) -> Option<(String, String)> {
     let plan = Plan::read(plan).ok()?;
     let lane = Lane::start(&plan);
-    let bad = (0..plan.oracles.len()).filter(|&n| is_bad(&plan, n, lane.oracles[n]));
-    let bad = Vec::from_iter(bad);
-    if bad.is_empty() {
+    let wrong = (0..plan.oracles.len()).filter(|&n| !good(&plan, n, lane.oracles[n]));
+    let wrong = Vec::from_iter(wrong);
+    if wrong.is_empty() {
         return None;
     }
-    let ways = bad.iter().map(|&n| {
+    let ways = wrong.iter().map(|&n| {
         let from = oracle_state(n, first(&plan, n));
         let to = lane.oracles[n];
-        format!("from {from} to state {to}, which is bad")
+        let verdict = verdict_words(plan.oracles[n][to].verdict);
+        format!("from {from} to state {to}, which is {verdict}")
     });
     let (letter, ways) = (letter(&plan, &lane), Vec::from_iter(ways).join(", and "));
     let why = format!("the starting state's letter {letter} leads {ways}");
-    let hopeless = bad.iter().filter_map(|&n| hopeless(&plan, n));
+    let hopeless = wrong.iter().filter_map(|&n| hopeless(&plan, n));
     let cure = match Vec::from_iter(hopeless) {
         cures if cures.is_empty() => {
             "other starting locations or values, or another oracle".to_string()
@@ -66,8 +67,8 @@ pub fn cause(plan: &[u8]) -> Option<(String, String)> {
     Some((why, cure))
 }
 
-fn is_bad(plan: &Plan, oracle: usize, state: usize) -> bool {
-    plan.oracles[oracle][state].verdict == 0
+fn good(plan: &Plan, oracle: usize, state: usize) -> bool {
+    is_good(plan.oracles[oracle][state].verdict)
 }
 
 /// The state in which an oracle begins.
@@ -78,13 +79,13 @@ fn first(plan: &Plan, oracle: usize) -> usize {
     }
 }
 
-/// The cure where every letter leads an oracle to a bad state.
+/// The cure where no letter leads an oracle to a good state.
 fn hopeless(plan: &Plan, oracle: usize) -> Option<String> {
     let first = first(plan, oracle);
     let mut next = plan.oracles[oracle][first].next.iter();
-    next.all(|&state| is_bad(plan, oracle, state)).then(|| match oracle {
-        0 => format!("another first oracle state, or another oracle: every letter leads from state {first} to a bad one"),
-        _ => format!("another table for added oracle {oracle}: every letter leads from its state {first} to a bad one"),
+    (!next.any(|&state| good(plan, oracle, state))).then(|| match oracle {
+        0 => format!("another first oracle state, or another oracle: no letter leads from state {first} to a good one"),
+        _ => format!("another table for added oracle {oracle}: no letter leads from its state {first} to a good one"),
     })
 }
 

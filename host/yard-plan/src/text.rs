@@ -63,16 +63,19 @@ pub fn bits(mask: u64) -> impl Iterator<Item = usize> {
     (0..64).filter(move |&n| mask >> n & 1 == 1)
 }
 
-/// A verdict in 01's words.
+/// A verdict with 01's words for it.
 pub fn verdict(verdict: u8) -> String {
-    let words = match verdict {
+    format!("verdict {verdict}, {}", verdict_words(verdict))
+}
+
+pub fn verdict_words(verdict: u8) -> &'static str {
+    match verdict {
         0 => "bad",
         1 => "currently false",
         2 => "currently true",
         3 => "true for good",
         _ => "no verdict",
-    };
-    format!("verdict {verdict}, {words}")
+    }
 }
 
 /// "oracle state 3", "state 3 of added oracle 1".

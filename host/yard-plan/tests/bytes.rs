@@ -91,6 +91,7 @@ fn every_bit_of_larger_plans() {
         "philosophers-3.plan",
         "robots-2.plan",
         "wet-bales.plan",
+        "split-skip.plan",
     ] {
         let bits = |byte| (0..8).map(|bit| byte ^ 1 << bit).collect();
         let tally = change_plan(name, usize::MAX, bits);
@@ -123,7 +124,11 @@ fn change_image(name: &str, tries: &[u32]) -> Tally {
 #[test]
 fn every_byte_of_an_image_with_every_value() {
     // The last try is cancelled in each.
-    for (name, tries) in [("sample.plan", &[0][..]), ("wet-bales.plan", &[3, 1, 0])] {
+    for (name, tries) in [
+        ("sample.plan", &[0][..]),
+        ("wet-bales.plan", &[3, 1, 0]),
+        ("split-skip.plan", &[2, 0]),
+    ] {
         let tally = change_image(name, tries);
         assert_eq!(tally.changes, 312 * 256);
         assert!(tally.single > 70_000 && tally.there > tally.single * 9 / 10);

@@ -3,6 +3,7 @@
 //! A case's first line that is no note (#) is the command: show, check, image or log. The lines after it make its files, in their order:
 //!   from NAME            begin with plans/NAME.plan; else it is the sample
 //!   start, settle, try N the library writes the image
+//!   list N ..            and does so by a list of moves
 //!   plan AT BYTES        writes bytes, in hex, into the plan
 //!   plan length N        cuts the plan off or adds zeros
 //!   plan append BYTES    adds bytes behind
@@ -47,6 +48,11 @@ impl Files {
             }
             ["try", number] => {
                 yard::attempt(&self.plan, &mut self.image, number.parse().unwrap());
+            }
+            ["list", ref numbers @ ..] => {
+                let numbers = numbers.iter().map(|n| n.parse::<u16>().unwrap());
+                let list: Vec<u8> = numbers.flat_map(u16::to_le_bytes).collect();
+                yard::list(&self.plan, &mut self.image, &list);
             }
             ["swap"] => std::mem::swap(&mut self.plan, &mut self.image),
             ["plan", ref change @ ..] => edit(&mut self.plan, change),
@@ -172,5 +178,5 @@ fn every_plan_of_the_folder_is_shown_and_accepted() {
         }
         seen += 1;
     }
-    assert_eq!(seen, 16);
+    assert_eq!(seen, 17);
 }

@@ -40,9 +40,11 @@ const PLAN_CAUSES: [(u32, &str); 10] = [
     (20, ", but this state has verdict 0"),
     (20, ", but this state has verdict 3"),
 ];
-const IMAGE_CAUSES: [(u32, &str); 7] = [
+const IMAGE_CAUSES: [(u32, &str); 9] = [
     (13, ", but added oracle "),
     (13, " of added oracle 1 has verdict 0"),
+    (13, " of added oracle 1 has verdict 1"),
+    (13, "oracle state 1 has verdict 1"),
     (13, "the state of added oracle "),
     (14, " above it is enabled and not marked"),
     (14, " above it are enabled and not marked"),
@@ -216,16 +218,18 @@ fn the_first_number_of_an_image_is_the_librarys_and_single_faults_are_cured() {
 }
 
 /// What the line on a log may be, with its status.
-const LINES: [(&str, &str, u8); 10] = [
+const LINES: [(&str, &str, u8); 12] = [
     ("accepted", "", 0),
     ("refused 21: ", ", an odd number, ", 1),
     ("refused 15: ", " which is bad", 1),
+    ("refused 15: ", " which is currently false", 1),
     ("entry ", ": 16, the plan has ", 4),
     ("entry ", " is not enabled: its guard is false: ", 4),
     ("entry ", " has no transition from location ", 4),
     ("entry ", " has a true guard", 4),
     ("entry ", " lies above ", 4),
     ("entry ", " lie above ", 4),
+    ("entry ", ", verdict 1, currently false", 4),
     ("entry ", ": bad, interaction ", 4),
 ];
 

@@ -16,6 +16,8 @@ pub const REFUSED: u32 = 5;
 pub const WRONG: u32 = 6;
 
 pub const IMAGE_BYTES: usize = 312;
+/// The most moves of a list.
+pub const LIST_MOVES: usize = 8;
 
 pub fn answer(packed: u32) -> Answer {
     Answer {
@@ -25,11 +27,11 @@ pub fn answer(packed: u32) -> Answer {
 }
 
 /// The calls of an engine with the interface of yard.h, by the names of its C functions. A slice's pointer is never null, is valid for its length, and
-/// `&mut` keeps the image apart from the plan: all that yard.h asks of a caller.
+/// `&mut` keeps the image apart from the plan and a list: all that yard.h asks of a caller.
 #[macro_export]
 macro_rules! engine {
-    ($check:literal, $start:literal, $offered:literal, $bits:literal, $try:literal, $settle:literal, $log:literal,
-     $log_index:literal) => {
+    ($check:literal, $start:literal, $offered:literal, $bits:literal, $try:literal, $settle:literal, $list:literal,
+     $log:literal, $log_index:literal) => {
         mod raw {
             extern "C" {
                 #[link_name = $check]
@@ -69,6 +71,15 @@ macro_rules! engine {
                     plan_len: usize,
                     image: *mut u8,
                     image_len: usize,
+                ) -> u32;
+                #[link_name = $list]
+                pub fn list(
+                    plan: *const u8,
+                    plan_len: usize,
+                    image: *mut u8,
+                    image_len: usize,
+                    moves: *const u8,
+                    moves_len: usize,
                 ) -> u32;
                 #[link_name = $log]
                 pub fn log(plan: *const u8, plan_len: usize, log: *const u8, log_len: usize)
@@ -123,6 +134,21 @@ macro_rules! engine {
             })
         }
 
+        /// Hands in a list of moves, 16 bits each with the lowest byte first.
+        pub fn list(plan: &[u8], image: &mut [u8], moves: &[u8]) -> $crate::Answer {
+            let (plan_len, image_len) = (plan.len(), image.len());
+            $crate::answer(unsafe {
+                raw::list(
+                    plan.as_ptr(),
+                    plan_len,
+                    image.as_mut_ptr(),
+                    image_len,
+                    moves.as_ptr(),
+                    moves.len(),
+                )
+            })
+        }
+
         pub fn log(plan: &[u8], log: &[u8]) -> $crate::Answer {
             $crate::answer(unsafe { raw::log(plan.as_ptr(), plan.len(), log.as_ptr(), log.len()) })
         }
@@ -141,6 +167,7 @@ engine!(
     "yard_offered_bits",
     "yard_try",
     "yard_settle",
+    "yard_list",
     "yard_log",
     "yard_log_index"
 );

@@ -1,4 +1,5 @@
-//! Compares every call of libyard.a with that of an older build as well, whose calls are named old_: answers and images must be the same.
+//! Compares every call of libyard.a with that of an older build as well, whose calls are named old_: answers and images must be the same. Where the older
+//! one has no lists, none is handed in, and plans with a state of verdict 1, which it refuses, are passed over.
 
 use std::process::ExitCode;
 
@@ -14,6 +15,7 @@ mod old {
         "old_offered_bits",
         "old_try",
         "old_settle",
+        "old_list",
         "old_log",
         "old_log_index"
     );
@@ -27,6 +29,7 @@ const OLD: Engine = Engine {
     bits: old::offered_bits,
     attempt: old::attempt,
     settle: old::settle,
+    list: old::list,
     log: old::log,
     log_index: old::log_index,
 };

@@ -1,18 +1,32 @@
 //! The logs of a session: of its moves, of runs, spoilt ones, and ones that nobody wrote.
 
-use reference::answer::Answer;
+use reference::answer::{Answer, Cause};
+use reference::lane::Lane;
 use reference::plan::Plan;
 
 use super::Session;
 use crate::checked::{Checked, Outcome};
 use crate::difference::Difference;
 use crate::engines::{Call, Reply};
+use crate::halves::Half;
 use crate::lent::LentPlan;
 use crate::logs::Shown;
 use crate::runs::{self, Run};
 
 /// The moves of a long run, in plans whose moves are soon made.
 const LONG: usize = 600;
+const ACCEPTED: (Answer, u64) = (Answer::Accepted, 0);
+
+/// The index of the first of the moves, made in turn from the start, that ends at verdict 1.
+fn first_half(plan: &LentPlan, moves: &[usize]) -> Option<u64> {
+    let plan = Plan::read(plan.bytes()).expect("a started plan is lawful");
+    let mut lane = Lane::start(&plan);
+    let mut ends = moves.iter().map(|&number| {
+        lane = lane.after(&plan, number).expect("the move was made");
+        lane.verdict(&plan)
+    });
+    ends.position(|verdict| verdict == 1).map(|at| at as u64)
+}
 
 impl Session {
     /// Both calls on a log; it is kept for other plans.
@@ -26,10 +40,16 @@ impl Session {
         compare(Call::Log)
     }
 
-    /// The log of a run must be accepted.
-    fn accepted_log(&mut self, plan: &LentPlan, log: Vec<u8>, whose: &'static str) -> Checked<()> {
+    /// The log of moves that were made must be accepted, or be wrong where they passed through verdict 1.
+    fn expected_log(
+        &mut self,
+        plan: &LentPlan,
+        log: Vec<u8>,
+        expected: (Answer, u64),
+        whose: &'static str,
+    ) -> Checked<()> {
         let outcome = self.log(plan, log)?;
-        if outcome.answer == Answer::Accepted {
+        if (outcome.answer, outcome.bits) == expected {
             return Ok(());
         }
         let call = Call::Log;
@@ -40,7 +60,7 @@ impl Session {
             said: ("all", Reply::of(call, outcome.answer, outcome.bits)),
             expected: (
                 "whoever made the moves",
-                Reply::of(call, Answer::Accepted, 0),
+                Reply::of(call, expected.0, expected.1),
             ),
             first_byte: None,
             plan: plan.bytes().to_vec(),
@@ -48,10 +68,16 @@ impl Session {
         }))
     }
 
-    /// The moves that a sequence committed.
+    /// The moves that a sequence committed. The first that a list took to verdict 1 is wrong, since it ends bad, and no other.
     pub(super) fn log_of_sequence(&mut self, plan: &LentPlan, moves: &[usize]) -> Checked<()> {
-        self.accepted_log(plan, runs::log_of(moves), "log of a sequence's moves")?;
-        if !moves.is_empty() {
+        let half = first_half(plan, moves);
+        let wrong = |index| (Answer::Wrong(Cause::Bad), index);
+        let expected = half.map_or(ACCEPTED, wrong);
+        let log = runs::log_of(moves);
+        self.expected_log(plan, log, expected, "log of a sequence's moves")?;
+        if half.is_some() {
+            self.tally.half(Half::OfSequence);
+        } else if !moves.is_empty() {
             self.tally.shown(Shown::OfSequence);
         }
         Ok(())
@@ -66,7 +92,7 @@ impl Session {
             false => self.rng.pick(&[0, 1, 3, 8, 20]),
         };
         let run = Run::new(&mut self.rng, lawful, most);
-        self.accepted_log(plan, run.log(), "log of a run")?;
+        self.expected_log(plan, run.log(), ACCEPTED, "log of a run")?;
         if run.is_below_bad() {
             self.tally.shown(Shown::BelowBad);
         }

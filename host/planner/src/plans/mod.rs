@@ -6,6 +6,7 @@ pub mod maximal;
 pub mod philosophers;
 pub mod robots;
 pub mod sample;
+pub mod split_skip;
 pub mod sums;
 pub mod tasks;
 pub mod wet_bales;
@@ -31,5 +32,6 @@ pub fn all() -> Vec<(&'static str, Plan)> {
         ("maximal-oracles.plan", maximal::with_oracles()),
         ("wet-bales.plan", wet_bales::plan()),
         ("sums.plan", sums::plan()),
+        ("split-skip.plan", split_skip::plan()),
     ]
 }

@@ -149,6 +149,9 @@ fn the_verdict_is_the_lowest_of_all() {
     assert_eq!(verdict(3, &[3, 2, 0]), 0);
     assert_eq!(verdict(2, &[0, 3]), 0);
     assert_eq!(verdict(0, &[3, 3]), 0);
+    assert_eq!(verdict(1, &[3, 2]), 1);
+    assert_eq!(verdict(2, &[3, 1]), 1);
+    assert_eq!(verdict(1, &[0]), 0);
 }
 
 #[test]
@@ -243,8 +246,8 @@ fn r15_an_added_oracle_alone_calls_the_start_bad() {
 }
 
 #[test]
-fn r20_verdict_not_0_2_or_3() {
-    for verdict in [1, 4, 255] {
+fn r20_verdict_past_3() {
+    for verdict in [4, 255] {
         assert_draft(Refusal::AddedOracle, |plan| {
             plan.added[0][0].verdict = verdict
         });
@@ -273,14 +276,14 @@ fn r20_true_for_good_with_another_follower() {
 
 #[test]
 fn r20_comes_after_9_and_before_10() {
-    let spoil_added = |plan: &mut Draft| plan.added[1][0].verdict = 1;
+    let spoil_added = |plan: &mut Draft| plan.added[1][0].verdict = 4;
     assert_draft(Refusal::AddedOracle, |plan| {
         spoil_added(plan);
         plan.propositions[0] = EMPTY;
     });
     assert_draft(Refusal::Oracle, |plan| {
         spoil_added(plan);
-        plan.oracle[0].verdict = 1;
+        plan.oracle[0].verdict = 4;
     });
     assert_draft(Refusal::Code, |plan| plan.propositions[0] = EMPTY);
     assert_eq!(Refusal::AddedOracle as u32, 20);

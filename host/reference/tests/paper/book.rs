@@ -2,6 +2,7 @@
 
 use reference::answer::{Answer, Refusal};
 use reference::book::{Book, Call};
+use reference::calls;
 use reference::plan::Plan;
 
 use crate::sample::*;
@@ -40,6 +41,57 @@ fn book_crosses_off_a_bad_move_until_one_is_done() {
     );
     assert_eq!(book.call(Call::Settle), (Answer::Committed(1), 0));
     assert_eq!(book.call(Call::Try(0)), (Answer::Committed(0), 0));
+}
+
+#[test]
+fn book_follows_the_image_through_lists() {
+    let plan = sample();
+    let (mut book, mut image) = (book(), started(&plan));
+    let lists = [&[0][..], &[1, 0, 2], &[2], &[], &[1; 9], &[1, 3], &[1, 0]];
+    for moves in lists {
+        for bytes in [log_of(moves), [log_of(moves), vec![0]].concat()] {
+            let expected = calls::list(&plan.bytes(), &mut image, &bytes);
+            assert_eq!(book.call(Call::List(&bytes)), (expected, 0));
+            assert_eq!(book.image(), image);
+        }
+        let expected = attempt(&plan, &mut image, 0);
+        assert_eq!(book.call(Call::Try(0)), (expected, 0));
+    }
+    assert_eq!(book.call(Call::Settle).0, settle(&plan, &mut image));
+    assert_eq!(book.image(), image);
+}
+
+#[test]
+fn a_committed_list_is_added_whole_and_empties_the_set() {
+    let mut book = book();
+    book.call(Call::Try(0));
+    let moves = log_of(&[1, 0, 2, 1]);
+    assert_eq!(book.call(Call::List(&moves)), (Answer::Committed(4), 0));
+    assert_eq!(marks(&book.image()), 0);
+    let mut other = Book::new(Plan::read(&sample().bytes()).unwrap());
+    for number in [1, 0, 2, 1] {
+        other.call(Call::Try(number));
+    }
+    assert_eq!(book.image(), other.image());
+}
+
+#[test]
+fn any_other_list_changes_nothing_in_the_book() {
+    let mut book = book();
+    book.call(Call::Try(0));
+    let before = book.image();
+    let refused = Answer::Refused(Refusal::BadList);
+    for (bytes, answer) in [
+        (log_of(&[1, 1]), Answer::Cancelled(1)),
+        (log_of(&[0]), Answer::Cancelled(0)),
+        (vec![1], refused),
+        (vec![], refused),
+        (log_of(&[1; 9]), refused),
+    ] {
+        assert_eq!(book.call(Call::List(&bytes)), (answer, 0));
+        assert_eq!(book.image(), before);
+    }
+    assert_eq!(marks(&before), 1);
 }
 
 #[test]

@@ -234,9 +234,10 @@ fn a_chain_of_ranks_is_lawful() {
 }
 
 #[test]
-fn r09_verdict_1_and_4() {
-    assert_draft(Refusal::Oracle, |plan| plan.oracle[0].verdict = 1);
-    assert_draft(Refusal::Oracle, |plan| plan.oracle[0].verdict = 4);
+fn r09_verdict_past_3() {
+    for verdict in [4, 255] {
+        assert_draft(Refusal::Oracle, |plan| plan.oracle[0].verdict = verdict);
+    }
 }
 
 #[test]
@@ -491,7 +492,7 @@ fn the_lowest_refusal_answers() {
     let mut plan = sample();
     plan.variables[0].owner = 9;
     plan.components[0].zero = 9;
-    plan.oracle[0].verdict = 1;
+    plan.oracle[0].verdict = 4;
     let answer = calls::start(&plan.bytes(), &mut []);
     assert_eq!(answer, Answer::Refused(Refusal::Component));
 }

@@ -128,7 +128,7 @@ pub fn offered(draft: &Draft, image: &Image) -> (Answer, u64) {
     calls::offered(&draft.bytes(), image)
 }
 
-/// The moves as a log.
+/// The moves as a log or a list.
 pub fn log_of(moves: &[u16]) -> Vec<u8> {
     moves
         .iter()
@@ -141,6 +141,11 @@ pub fn logged(draft: &Draft, moves: &[u16]) -> (Answer, u64) {
     log::check(&draft.bytes(), &log_of(moves))
 }
 
+/// Hands in a list of these moves.
+pub fn list(draft: &Draft, image: &mut Image, moves: &[u16]) -> Answer {
+    calls::list(&draft.bytes(), image, &log_of(moves))
+}
+
 pub fn marks(image: &Image) -> u64 {
     u64::from_le_bytes(image[16..24].try_into().unwrap())
 }
@@ -149,7 +154,7 @@ pub fn value(image: &Image, n: usize) -> i32 {
     i32::from_le_bytes(image[56 + 4 * n..][..4].try_into().unwrap())
 }
 
-/// The image and start calls on a refused plan change no byte; a log, odd or not, makes no difference.
+/// The image and start calls on a refused plan change no byte; a log or a list, odd or not, makes no difference.
 pub fn assert_plan_refused(plan: &[u8], refusal: Refusal) {
     let mut image = started(&sample());
     let before = image;
@@ -159,10 +164,11 @@ pub fn assert_plan_refused(plan: &[u8], refusal: Refusal) {
     assert_eq!(calls::offered(plan, &image), (refused, 0));
     assert_eq!(calls::attempt(plan, &mut image, 1), refused);
     assert_eq!(calls::settle(plan, &mut image), refused);
-    assert_eq!(image, before);
-    for log in [&[][..], &[1, 0], &[1]] {
-        assert_eq!(log::check(plan, log), (refused, 0));
+    for moves in [&[][..], &[1, 0], &[1]] {
+        assert_eq!(log::check(plan, moves), (refused, 0));
+        assert_eq!(calls::list(plan, &mut image, moves), refused);
     }
+    assert_eq!(image, before);
 }
 
 /// The sample's calls on a refused image change no byte.
@@ -173,5 +179,8 @@ pub fn assert_image_refused(image: &[u8], refusal: Refusal) {
     assert_eq!(calls::offered(&plan, image), (refused, 0));
     assert_eq!(calls::attempt(&plan, &mut after, 1), refused);
     assert_eq!(calls::settle(&plan, &mut after), refused);
+    for moves in [&[][..], &[1, 0], &[1]] {
+        assert_eq!(calls::list(&plan, &mut after, moves), refused);
+    }
     assert_eq!(after, image);
 }

@@ -1,4 +1,4 @@
-//! 9, of the first oracle, and 20, of an added one: a verdict other than 0, 2, 3, a next state that the oracle lacks, a bad state that leads
+//! 9, of the first oracle, and 20, of an added one: a verdict past 3, a next state that the oracle lacks, a bad state, of verdict 0, that leads
 //! to another, or a 3 state that does.
 
 use super::Fault;
@@ -53,18 +53,11 @@ impl Table<'_> {
         let state = &self.states[s];
         let fits = self.verdicts[s];
         (state.verdict != fits).then(|| {
-            let text = match state.verdict {
-                1 => format!(
-                    "{}, which a safety property never yields",
-                    text::verdict(state.verdict)
-                ),
-                other => {
-                    format!(
-                        "verdict {other}, but there are 0 bad, 2 currently true, 3 true for good"
-                    )
-                }
-            };
-            let cure = format!("0, 2 or 3; {fits} fits the states around it best");
+            let text = format!(
+                "verdict {}, but there are 0 bad, 1 currently false, 2 currently true, 3 true for good",
+                state.verdict
+            );
+            let cure = format!("0 to 3; {fits} fits the states around it best");
             self.fault(s, state.at, text, cure, fits)
         })
     }

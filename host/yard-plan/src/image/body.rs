@@ -1,4 +1,6 @@
-//! 13: an oracle state out of range or bad, a location or last port out of range, or an unused entry filled.
+//! 13: an oracle state out of range or not good, a location or last port out of range, or an unused entry filled.
+
+use reference::lane::is_good;
 
 use super::places::{
     Image, COMPONENTS, LAST_COPY, LAST_PORTS, LOCATIONS, MOST_ORACLES, ORACLES, VALUES, VARIABLES,
@@ -39,8 +41,9 @@ fn oracle(tables: &Tables, image: &Image, n: usize) -> Option<Fault> {
     let name = oracle_state(n, state);
     let text = match states.get(usize::from(state)) {
         None => format!("{name}, but {}", oracle_has(n, states.len())),
-        Some(found) if found.verdict == 0 => {
-            format!("{name} has {}, and no lane is left in it", verdict(0))
+        Some(found) if !is_good(found.verdict) => {
+            let verdict = verdict(found.verdict);
+            format!("{name} has {verdict}, and no lane is left in it")
         }
         Some(_) => return None,
     };

@@ -98,7 +98,7 @@ struct Site<'a> {
 }
 
 impl Site<'_> {
-    /// Why a mark may not stand; none where the move ends bad and so does each enabled one above it, all of them marked.
+    /// Why a mark may not stand; none where neither the move nor an enabled one above it ends good, and all of them are marked.
     fn why(&self, mark: usize) -> Option<String> {
         let Some(after) = self.lane.after(self.plan, mark) else {
             let why = not_enabled(self.plan, self.tables, &self.lane, mark);

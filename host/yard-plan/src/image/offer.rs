@@ -43,7 +43,7 @@ fn none(settled: yard::Answer) -> String {
     match settled.kind {
         yard::STALLED => "none: nothing is enabled (a settling would answer stalled)".to_string(),
         yard::PENNED => {
-            "none: every enabled move ends bad and is marked (a settling would answer penned)"
+            "none: no enabled move ends well, and each is marked (a settling would answer penned)"
                 .to_string()
         }
         yard::COMMITTED => format!("none, although a settling would commit {number}"),

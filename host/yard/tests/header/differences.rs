@@ -3,7 +3,7 @@
 use std::fmt::Display;
 
 /// Each refusal of the header, with words that its rule alone has; 18 means something else for an entry of a log.
-const REFUSALS: [(&str, &str); 22] = [
+const REFUSALS: [(&str, &str); 23] = [
     ("YARD_BAD_HEAD", "headOk"),
     ("YARD_BAD_COUNT", "countsOk"),
     ("YARD_BAD_LAYOUT", "layoutOk"),
@@ -19,12 +19,13 @@ const REFUSALS: [(&str, &str); 22] = [
     ("YARD_OTHER_PLAN", "headMatches"),
     ("YARD_BAD_STATE", "configurationOk"),
     ("YARD_FALSE_MARK", "marksOk"),
+    ("YARD_BAD_LIST", "maxMoves"),
     ("YARD_ODD_LOG", "length l % 2"),
     ("YARD_BAD_START", "good p (initial p)"),
     ("YARD_NO_SUCH_MOVE", "ltb i (interactions p)"),
     ("YARD_NOT_ENABLED", "enabled p"),
     ("YARD_OUTRANKED", "outranked p"),
-    ("YARD_OUTRANKED", "dominated p"),
+    ("YARD_OUTRANKED", "leadsAbove p"),
     ("YARD_MARKED", "bit (marksOf b) i"),
 ];
 
@@ -71,16 +72,16 @@ pub fn named<T: Display + PartialEq>(
 
 type Rules = [(u32, String)];
 
-/// The refusals against the rules: each rule has one name and its own number, in the order of the rules. The lists of a log's rules may name the same
-/// ones again, each in an order of its own.
+/// The refusals against the rules: each rule has one name and its own number, in the order of the rules. The other lists, of a log's rules and of a
+/// list's, may name the same ones again, each in an order of its own.
 pub fn refusals(
     header: &[(String, u32)],
     rules: &Rules,
-    logs: &[Vec<(u32, String)>],
+    others: &[Vec<(u32, String)>],
 ) -> Vec<String> {
     let mut found = Vec::new();
     let mut wanted = Vec::new();
-    for (number, text) in rules.iter().chain(logs.iter().flatten()) {
+    for (number, text) in rules.iter().chain(others.iter().flatten()) {
         match REFUSALS.iter().find(|(_, words)| text.contains(words)) {
             Some((name, _)) if wanted.contains(&(name.to_string(), *number)) => {}
             Some((name, _)) => wanted.push((name.to_string(), *number)),
@@ -94,7 +95,7 @@ pub fn refusals(
             .filter(|number| twice(number))
             .map(|number| format!("{number} is the number of two rules")),
     );
-    for list in [rules].into_iter().chain(logs.iter().map(Vec::as_slice)) {
+    for list in [rules].into_iter().chain(others.iter().map(Vec::as_slice)) {
         found.extend(turned(header, list));
     }
     found.extend(named(header, &wanted));

@@ -10,7 +10,7 @@ mod tokens;
 /// Names with what they stand for.
 type Named<T> = Vec<(String, T)>;
 
-/// The header's enumerations; the first, of the length, has no name.
+/// The header's enumerations; the first, of an image's length and a list's, has no name.
 const ENUMS: [&str; 4] = ["", "yard_image_place", "yard_kind", "yard_refusal"];
 
 /// The texts that are compared.
@@ -19,10 +19,11 @@ struct Texts {
     header: String,
     /// crates/yard/src/lib.rt
     source: String,
-    /// Four of crates/semantics/specs.
+    /// Five of crates/semantics/specs.
     rules: String,
     image: String,
     calls: String,
+    load: String,
     log: String,
 }
 
@@ -34,6 +35,7 @@ impl Texts {
             rules: include_str!("../../../../crates/semantics/specs/Rules.antt").into(),
             image: include_str!("../../../../crates/semantics/specs/Image.antt").into(),
             calls: include_str!("../../../../crates/semantics/specs/Calls.antt").into(),
+            load: include_str!("../../../../crates/semantics/specs/Load.antt").into(),
             log: include_str!("../../../../crates/semantics/specs/Log.antt").into(),
         }
     }
@@ -56,9 +58,9 @@ impl Texts {
             differences::refusals(
                 header.list("yard_refusal"),
                 &rules.concat(),
-                &specs::rule_lists(&self.log),
+                &self.other_lists(),
             ),
-            differences::named(header.list(""), &specs::length(&self.image)?),
+            differences::named(header.list(""), &specs::limits(&self.image, &self.load)?),
             differences::named(
                 header.list("yard_image_place"),
                 &specs::places(&self.image)?,
@@ -66,6 +68,14 @@ impl Texts {
             differences::packing(&self.header, &self.calls),
         ]
         .concat())
+    }
+
+    /// The rules of a log and of a list, each in the order of its call; a list's are tested after the image's.
+    fn other_lists(&self) -> Vec<Vec<(u32, String)>> {
+        let of_list = [&self.image, &self.load].map(|text| specs::rules(text));
+        let mut lists = specs::rule_lists(&self.log);
+        lists.push(of_list.concat());
+        lists
     }
 }
 
@@ -90,6 +100,12 @@ fn the_crate_for_rust_has_the_numbers_of_the_header() {
         header.list("yard_kind"),
         ours.map(|(name, n)| (name.to_string(), n))
     );
-    let length = ("YARD_IMAGE_BYTES".to_string(), yard::IMAGE_BYTES as u32);
-    assert_eq!(header.list(""), [length]);
+    let limits = [
+        ("YARD_IMAGE_BYTES", yard::IMAGE_BYTES),
+        ("YARD_LIST_MOVES", yard::LIST_MOVES),
+    ];
+    assert_eq!(
+        header.list(""),
+        limits.map(|(name, n)| (name.to_string(), n as u32))
+    );
 }

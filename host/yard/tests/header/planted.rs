@@ -33,6 +33,10 @@ source | interaction: u32) -> u32 | interaction: u32) -> u64 | yard_try: the hea
 source | fn yard_log( | fn yard_logs( | yard_logs is not in the header; yard_log: the header alone has
 header | uint64_t yard_log_index | uint32_t yard_log_index | yard_log_index: the header has uint32_t
 source | yard_log(plan: &[u8], log: &[u8]) | yard_log(plan: &[u8], log: &mut [u8]) | yard_log: the header has
+# a list's call
+source | fn yard_list( | fn yard_lists( | yard_lists is not in the header; yard_list: the header alone has
+source | yard_list(plan: &[u8], image: &mut [u8], moves: &[u8]) | yard_list(plan: &[u8], image: &[u8], moves: &[u8]) | yard_list: the header has
+header | const uint8_t *moves, size_t moves_len | size_t moves_len, const uint8_t *moves | yard_list: the header has
 # another kind
 header | YARD_PENNED = 4 | YARD_PENNED = 6 | YARD_PENNED: the header has 6, wanted: 4
 calls | penned = record { kind = 4 | penned = record { kind = 3 | YARD_PENNED: the header has 4, wanted: 3
@@ -45,7 +49,8 @@ header | YARD_MARKED = 19 | YARD_MARKED = 28 | YARD_MARKED: the header has 28, w
 header | YARD_BAD_HEAD = 1 | YARD_BAD_HEAD = 2 | YARD_BAD_HEAD stands before YARD_BAD_COUNT; YARD_BAD_HEAD: the header has 2, wanted: 1
 rules | rule 9 ( | rule 8 ( | 8 is the number of two rules; 8 is the number of two rules; YARD_BAD_ORACLE: the header has 9, wanted: 8
 calls | rule 15 ( | rule 28 ( | YARD_BAD_START: the header has 15, wanted: 28
-log | rule 21 ( | rule 22 ( | YARD_ODD_LOG: the header has 21, wanted: 22
+log | rule 21 ( | rule 28 ( | YARD_ODD_LOG: the header has 21, wanted: 28
+load | rule 22 ( | rule 28 ( | YARD_BAD_LIST: the header has 22, wanted: 28
 log | rule 15 ( | rule 28 ( | YARD_BAD_START: the header has 15, wanted: 28
 log | rule 18 (not | rule 28 (not | YARD_OUTRANKED: the header has 18, wanted: 28
 # two rules with each other's numbers
@@ -60,6 +65,10 @@ header | YARD_MARKED = 19 | YARD_MARKED = 19, YARD_LATE = 28 | YARD_LATE: the he
 header | YARD_ODD_LOG = 21, |  | YARD_ODD_LOG is not in the header, wanted: 21
 log | rule 21 (eqb (length l % 2) 0) ∷ |  | YARD_ODD_LOG: the header alone has 21
 log | rule 21 (eqb (length l % 2) 0) ∷ | rule 21 (even l) ∷ | rule 21 has no name: even l; YARD_ODD_LOG: the header alone has 21
+header | YARD_BAD_LIST = 22, |  | YARD_BAD_LIST is not in the header, wanted: 22
+# another length of a list
+header | YARD_LIST_MOVES = 8 | YARD_LIST_MOVES = 9 | YARD_LIST_MOVES: the header has 9, wanted: 8
+load | maxMoves = 8 | maxMoves = 16 | YARD_LIST_MOVES: the header has 8, wanted: 16
 # another length or place of the image
 header | YARD_IMAGE_BYTES = 312 | YARD_IMAGE_BYTES = 311 | YARD_IMAGE_BYTES: the header has 311, wanted: 312
 image | imageLength = 312 | imageLength = 320 | YARD_IMAGE_BYTES: the header has 312, wanted: 320
@@ -86,6 +95,7 @@ fn side<'a>(texts: &'a mut Texts, name: &str) -> &'a mut String {
         "rules" => &mut texts.rules,
         "image" => &mut texts.image,
         "calls" => &mut texts.calls,
+        "load" => &mut texts.load,
         "log" => &mut texts.log,
         other => panic!("no text is called {other}"),
     }
@@ -142,4 +152,6 @@ fn a_refusal_out_of_the_order_of_the_rules_is_found() {
     assert_eq!(found, ["YARD_BAD_CODE stands before YARD_BAD_ADDED"]);
     let found = found_when_moved("YARD_ODD_LOG = 21,", "YARD_BAD_START = 15,");
     assert_eq!(found, ["YARD_BAD_START stands before YARD_ODD_LOG"]);
+    let found = found_when_moved("YARD_FALSE_MARK = 14,", "YARD_BAD_LIST = 22,");
+    assert_eq!(found, ["YARD_BAD_LIST stands before YARD_FALSE_MARK"]);
 }

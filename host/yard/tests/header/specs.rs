@@ -50,11 +50,12 @@ fn leading_number(text: &str) -> Option<u32> {
     text[..end.unwrap_or(text.len())].parse().ok()
 }
 
-pub fn length(image: &str) -> Result<Named<u32>, String> {
-    Ok(vec![(
-        "YARD_IMAGE_BYTES".into(),
-        defined(image, "imageLength")?,
-    )])
+/// The length of an image and the most moves of a list, under the header's names.
+pub fn limits(image: &str, load: &str) -> Result<Named<u32>, String> {
+    Ok(vec![
+        ("YARD_IMAGE_BYTES".into(), defined(image, "imageLength")?),
+        ("YARD_LIST_MOVES".into(), defined(load, "maxMoves")?),
+    ])
 }
 
 /// The places of an image, under the header's names.

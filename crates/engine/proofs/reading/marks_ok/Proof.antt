@@ -3,7 +3,7 @@ use mathlib.Core.Bool.{true}
 use Prim.Native.Nat.{ℕ, _<_, _^_}
 use Rattle.semantics.specs.Bytes.{implies, every, bit}
 use Rattle.semantics.specs.Plan.{maxInteractions, interactions}
-use Rattle.semantics.specs.Move.{Configuration, enabled}
+use Rattle.semantics.specs.Move.{Configuration, enabled, good}
 use Rattle.semantics.proofs.Basics.{not-yes, not-no}
 use Rattle.lane.specs.Runs.{lent}
 use Rattle.engine.proofs.MarkLaws.{bit-below, no-marks, marks-outside, marks-outranked, marked-enabled, marks-judged}
@@ -54,22 +54,23 @@ returns-3 c =
     sym (marks-outranked (s .args .plan .now) (held s) (s .args .marks) (s .args .enabled) (s .args .free) (s .pre .1 .1 .0 .1) (s .pre .1 .1 .1)
     (sym (c .before .none-above .ensures) ∙ not-yes _ (c .if3 .taken)))
 
-all-bad-requires : tie.Need-all-bad-requires
-all-bad-requires c κs =
+none-reaches-requires : tie.Need-none-reaches-requires
+none-reaches-requires c κs =
     let e = c .before .before .before in
     let s = e .before .before .before in
     (s .pre .0, ((s .pre .1 .0 .0, s .pre .1 .1 .0 .0), (s .pre .1 .0 .1, marked e)))
 
 returns-4 : tie.Need-returns-4
+unfolding good
 returns-4 c =
     let x = c .before in
     let e = x .before .before .before in
     let s = e .before .before .before in
-    c .all-bad .ensures
+    c .none-reaches .ensures
     ∙ marks-judged (s .args .plan .now) (held s) (s .args .marks) (s .args .enabled) (s .args .free) (s .pre .1 .1 .0 .1) (s .pre .1 .1 .1) (within e)
     (sym (x .before .none-above .ensures) ∙ not-no _ (x .if3 .left))
 
 pub marks-ok-spec : {M : Type 1} → statement M
 marks-ok-spec =
     tie.close
-    (tie.spec inside-requires returns returns-2 none-above-requires returns-3 all-bad-requires returns-4)
+    (tie.spec inside-requires returns returns-2 none-above-requires returns-3 none-reaches-requires returns-4)

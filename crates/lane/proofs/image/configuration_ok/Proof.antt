@@ -3,7 +3,7 @@ use mathlib.Core.Path.{_≡_, sym, ap₂, _∙_}
 use Rattle.semantics.specs.Bytes.{allOf, every}
 use Rattle.semantics.specs.Plan.{Plan, maxComponents, maxVariables}
 use Rattle.semantics.specs.Code.{site, valued}
-use Rattle.semantics.specs.Move.{Configuration, oraclesInRange, oraclesGood, good}
+use Rattle.semantics.specs.Move.{Configuration, oraclesInRange, reaches, good}
 use Rattle.semantics.specs.Image.{locationOk, lastPortOk, valueOk, configurationOk}
 use Rattle.lane.specs.Runs.{placed}
 use borrow.Author.Needs.{needs}
@@ -11,7 +11,7 @@ use Rattle.lane.proofs.image.configuration_ok.Statement.{statement}
 use Rattle.lane.proofs.image.configuration_ok.Tie as tie
 
 -- the tests of a state read only what each is given
-joined : (p : Plan) (k : Configuration) {a b c : Bool} → oraclesInRange p (k .oracles) ≡ true → a ≡ oraclesGood p (k .oracles)
+joined : (p : Plan) (k : Configuration) {a b c : Bool} → oraclesInRange p (k .oracles) ≡ true → a ≡ reaches p 2 (k .oracles)
     → b ≡ (every maxComponents (locationOk p (placed (k .state .locations) (k .state .lastPorts)))
     && every maxComponents (lastPortOk p (placed (k .state .locations) (k .state .lastPorts))))
     → c ≡ every maxVariables (valueOk p (valued (k .state .values))) → ((a && b) && c) ≡ configurationOk p k

@@ -1,4 +1,5 @@
-use mathlib.Core.Path.{_≡_, sym, ap, _∙_}
+use mathlib.Core.Path.{sym, ap, _∙_}
+use mathlib.Core.Bool.{Bool}
 use mathlib.Core.List.{[], _∷_}
 use Prim.Native.Nat.{ℕ}
 use native.Mathlib.Omega.{arith}
@@ -8,10 +9,14 @@ use Rattle.semantics.specs.Rules.{followerOk}
 use Rattle.semantics.specs.Plan.{oracleStates, verdict}
 use Rattle.semantics.specs.Bytes.{allOf, implies}
 use Rattle.semantics.proofs.Basics.{lt-ltb, le-ltb}
-use Rattle.oracle.proofs.Verdicts.{same-verdict}
+use Rattle.oracle.proofs.Verdicts.{any-verdict, same-verdict}
 use Rattle.words.proofs.TestLaws.{first-fails, first-passed}
 use Rattle.oracle.proofs.rule.follower_ok.Statement.{statement}
 use Rattle.oracle.proofs.rule.follower_ok.Tie as tie
+
+-- the rule beyond the range
+abbrev rest : ℕ → ℕ → Bool
+rest v w = allOf (implies (eqb v 0) (eqb w 0) ∷ implies (eqb v 3) (eqb w 3) ∷ [])
 
 returns : tie.Need-returns
 unfolding followerOk
@@ -21,12 +26,13 @@ returns c =
     sym (first-fails _ _ (le-ltb (a .next) (oracleStates (a .plan .now) (a .n)) (omega arith)))
 
 returns-2 : tie.Need-returns-2
-unfolding followerOk implies allOf
+unfolding followerOk
 returns-2 c =
     let s = c .before .before .before in
     let a = s .args in
-    let two : verdict (a .plan .now) (a .n) (a .q) ≡ 2 = sym (s .pre .1 .0) ∙ c .if2 .taken in
-    rw (two, lt-ltb (a .next) (oracleStates (a .plan .now) (a .n)) (omega arith))
+    let p = a .plan .now in
+    let w : ℕ = verdict p (a .n) (a .next) in
+    sym (first-passed _ _ (lt-ltb (a .next) (oracleStates p (a .n)) (omega arith)) ∙ ap (λ (x : ℕ). rest x w) (sym (s .pre .1 .0)) ∙ any-verdict (a .v) w (c .if2 .taken))
 
 row-of-requires : tie.Need-row-of-requires
 row-of-requires c κs = search needs
@@ -44,7 +50,7 @@ returns-3 c =
     let w : ℕ = verdict p (a .n) (a .next) in
     ap (λ (x : ℕ). eqb x (a .v)) (c .verdict-in .ensures)
     ∙ same-verdict (a .v) w (s .pre .1 .1) (r .before .if2 .left)
-    ∙ ap (λ (x : ℕ). allOf (implies (eqb x 0) (eqb w 0) ∷ implies (eqb x 3) (eqb w 3) ∷ [])) (s .pre .1 .0)
+    ∙ ap (λ (x : ℕ). rest x w) (s .pre .1 .0)
     ∙ sym (first-passed _ _ (lt-ltb (a .next) (oracleStates p (a .n)) (omega arith)))
 
 pub follower-ok-spec : {M : Type 1} → statement M

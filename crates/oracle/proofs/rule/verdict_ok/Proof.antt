@@ -1,12 +1,11 @@
-use mathlib.Core.Path.{sym}
+use borrow.Author.Needs.{needs}
 use Rattle.semantics.specs.Rules.{verdictOk}
-use Rattle.words.proofs.TestLaws.{tests}
 use Rattle.oracle.proofs.rule.verdict_ok.Statement.{statement}
 use Rattle.oracle.proofs.rule.verdict_ok.Tie as tie
 
 returns : tie.Need-returns
 unfolding verdictOk
-returns c = sym (tests _ _)
+returns c = search needs
 
 pub verdict-ok-spec : {M : Type 1} → statement M
 verdict-ok-spec = tie.close (tie.spec returns)

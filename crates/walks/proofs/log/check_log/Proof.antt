@@ -1,15 +1,20 @@
-use mathlib.Core.Path.{_≡_, sym, ap, _∙_}
+use mathlib.Core.Path.{_≡_, sym, ap, ap₂, _∙_}
 use Prim.Native.Nat.{_%_}
+use native.Mathlib.Nat.{zero-add}
 use lib.Bits.{and-mask}
 use lib.ListN.{length}
 use Rattle.semantics.specs.Plan.{Plan}
 use Rattle.semantics.specs.Rules.{planRefusal}
 use Rattle.semantics.specs.Move.{Configuration, good, initial}
-use Rattle.semantics.specs.Log.{Log, entries, walked}
+use Rattle.semantics.specs.Bytes.{entries}
+use Rattle.semantics.specs.Log.{Log, wrong, walked, checkLog}
 use Rattle.semantics.proofs.Basics.{not-yes, not-no}
+use Rattle.semantics.proofs.LogEntries.{entries-long}
 use Rattle.lane.specs.Runs.{configurationIn}
 use Rattle.moves.proofs.SearchLaws.{ends-good}
+use Rattle.engine.specs.Answers.{answerOf}
 use Rattle.walks.proofs.LogLaws.{log-plan, log-21, log-15, log-walked}
+use Rattle.walks.proofs.WalkLaws.{walked-whole, walked-short}
 use borrow.Author.Needs.{needs}
 use Rattle.walks.proofs.log.check_log.Statement.{statement}
 use Rattle.walks.proofs.log.check_log.Tie as tie
@@ -83,13 +88,34 @@ returns-3 c =
 walk-requires : tie.Need-walk-requires
 walk-requires c κs = search needs
 
-returns-4 : tie.Need-returns-4
-returns-4 c =
-    let t = c .before .before .before .before .before .before .before in
+abbrev good-start : tie.After-walk → tie.Else3
+good-start c = c .before .before .before .before .before .before .before
+
+-- past the numbers the answer is that of the walk
+checked : (c : tie.After-walk) → let k = kept (good-start c .before) .before in
+    checkLog (plan k) (log k) ≡ walked (plan k) (configurationIn (begins (good-start c .before) .initial .result)) 0 (entries (log k))
+checked c =
+    let t = good-start c in
     let e = kept (t .before) in
     let k = e .before in
-    c .walk .ensures ∙ ap (λ (x : Configuration). walked (plan k) x 0 (entries (log k))) (made (begins (t .before)))
-    ∙ sym (log-walked (plan k) (log k) (accepted k) (even e) (sym (good-is (t .before)) ∙ not-no _ (t .if3 .left)))
+    log-walked (plan k) (log k) (accepted k) (even e) (sym (good-is (t .before)) ∙ not-no _ (t .if3 .left))
+    ∙ ap (λ (x : Configuration). walked (plan k) x 0 (entries (log k))) (sym (made (begins (t .before))))
+
+returns-4 : tie.Need-returns-4
+unfolding answerOf
+returns-4 c =
+    let w = c .before in
+    let k = kept (good-start w .before) .before in
+    sym (checked w ∙ walked-whole (plan k) _ 0 (entries (log k)) (sym (w .walk .ensures .0 .0) ∙ c .if4 .taken ∙ sym (entries-long (log k))))
+
+returns-5 : tie.Need-returns-5
+unfolding answerOf
+returns-5 c =
+    let w = c .before in
+    let k = kept (good-start w .before) .before in
+    let ((index, cause, _), _) = w .walk .ensures in
+    ap₂ wrong cause (index ∙ sym (zero-add _))
+    ∙ sym (checked w ∙ walked-short (plan k) _ 0 (entries (log k)) (λ h. c .if4 .left (index ∙ h ∙ entries-long (log k))))
 
 pub check-log-spec : {M : Type 1} → statement M
 check-log-spec =
@@ -105,4 +131,5 @@ check-log-spec =
     turned-away-requires-3
     returns-3
     walk-requires
-    returns-4)
+    returns-4
+    returns-5)

@@ -4,15 +4,14 @@ use Prim.Native.Nat.{ℕ, _<_}
 use native.Mathlib.Omega.{arith}
 use Rattle.semantics.specs.Bytes.{bit, mask}
 use Rattle.semantics.specs.Plan.{Plan, interactions}
-use Rattle.semantics.specs.Move.{Configuration, enabled, after}
-use Rattle.semantics.specs.Log.{cause}
+use Rattle.semantics.specs.Move.{Configuration, enabled, reaches}
+use Rattle.semantics.specs.Log.{causeFrom}
 use Rattle.semantics.proofs.Basics.{absurd-bool, not-yes, not-no}
-use Rattle.semantics.proofs.LogWalk.{caused-wrong, uncaused, cause-high, cause-disabled, cause-dominated, cause-none}
+use Rattle.semantics.proofs.LogWalk.{cause-high, cause-disabled, cause-above, cause-none, caused-stops, uncaused-passes}
 use Rattle.layout.proofs.Sections.{laid-accepted}
 use Rattle.lane.specs.Runs.{lent}
 use Rattle.choices.proofs.ChoiceLaws.{unset-none}
-use Rattle.moves.proofs.SearchLaws.{ends-good}
-use Rattle.walks.proofs.LogLaws.{own-alone, own-enabled}
+use Rattle.walks.proofs.StepLaws.{own-alone, own-enabled}
 use borrow.Author.Needs.{needs}
 use Rattle.walks.proofs.step.step.Statement.{statement}
 use Rattle.walks.proofs.step.step.Tie as tie
@@ -28,7 +27,7 @@ counted c = c .before .before .before .before .before .before
 abbrev filled : tie.After-bit → tie.After-choose-for
 filled c = c .before .before .before .before .before .before .before
 
-abbrev able : tie.After-good-above → tie.Else2
+abbrev able : tie.After-leading-above → tie.Else2
 able c = c .before .before .before .before .before
 
 abbrev allowed : tie.After-after → tie.Else3
@@ -70,11 +69,11 @@ abbrev start-3 : tie.Else3 → tie.Start
 start-3 c = start-2 (able (c .before))
 
 -- no cause applies
-none : (c : tie.Else3) → cause (plan (start-3 c)) (at (start-3 c)) (start-3 c .args .i) ≡ 0
+none : (c : tie.Else3) → causeFrom (plan (start-3 c)) (start-3 c .args .v) (at (start-3 c)) (start-3 c .args .i) ≡ 0
 none c =
     let e = able (c .before) in
     let s = start-2 e in
-    cause-none (plan s) (at s) (s .args .i) (inside (counted (filled (e .before)))) (enabled-is e) (sym (c .before .good-above .ensures) ∙ c .if3 .left)
+    cause-none (plan s) (s .args .v) (at s) (s .args .i) (inside (counted (filled (e .before)))) (enabled-is e) (sym (c .before .leading-above .ensures) ∙ c .if3 .left)
 
 -- ---- the needs
 
@@ -89,8 +88,8 @@ returns c =
     let t = c .before in
     let s = t .before .before .before in
     let e = c .stopped .ensures in
-    let x = cause-high (plan s) (at s) (s .args .i) (omega (arith, t .before .interactions .ensures .0, t .if1 .taken)) in
-    ((e .0 ∙ sym (caused-wrong (plan s) (at s) (s .args .i) 15 x), e .1 ∙ sym x), λ y. absurd-bool y (e .0))
+    let x = cause-high (plan s) (s .args .v) (at s) (s .args .i) (omega (arith, t .before .interactions .ensures .0, t .if1 .taken)) in
+    ((e .0 ∙ sym (caused-stops (plan s) (s .args .v) (at s) (s .args .i) 15 x), e .1 ∙ sym x), λ y. absurd-bool y (e .0))
 
 unset-requires : tie.Need-unset-requires
 unset-requires c κs = search needs
@@ -122,11 +121,11 @@ returns-2 c =
     let k = counted (filled (t .before)) in
     let s = begun k in
     let e = c .stopped2 .ensures in
-    let x = cause-disabled (plan s) (at s) (s .args .i) (inside k) (sym (tested (t .before)) ∙ not-yes _ (t .if2 .taken)) in
-    ((e .0 ∙ sym (caused-wrong (plan s) (at s) (s .args .i) 16 x), e .1 ∙ sym x), λ y. absurd-bool y (e .0))
+    let x = cause-disabled (plan s) (s .args .v) (at s) (s .args .i) (inside k) (sym (tested (t .before)) ∙ not-yes _ (t .if2 .taken)) in
+    ((e .0 ∙ sym (caused-stops (plan s) (s .args .v) (at s) (s .args .i) 16 x), e .1 ∙ sym x), λ y. absurd-bool y (e .0))
 
-good-above-requires : tie.Need-good-above-requires
-good-above-requires c κs =
+leading-above-requires : tie.Need-leading-above-requires
+leading-above-requires c κs =
     let e = c .before .before .before .before in
     let f = filled (e .before) in
     let s = start-2 e in
@@ -141,8 +140,8 @@ returns-3 c =
     let n = able (t .before) in
     let s = start-2 n in
     let e = c .stopped3 .ensures in
-    let x = cause-dominated (plan s) (at s) (s .args .i) (inside (counted (filled (n .before)))) (enabled-is n) (sym (t .before .good-above .ensures) ∙ t .if3 .taken) in
-    ((e .0 ∙ sym (caused-wrong (plan s) (at s) (s .args .i) 17 x), e .1 ∙ sym x), λ y. absurd-bool y (e .0))
+    let x = cause-above (plan s) (s .args .v) (at s) (s .args .i) (inside (counted (filled (n .before)))) (enabled-is n) (sym (t .before .leading-above .ensures) ∙ t .if3 .taken) in
+    ((e .0 ∙ sym (caused-stops (plan s) (s .args .v) (at s) (s .args .i) 17 x), e .1 ∙ sym x), λ y. absurd-bool y (e .0))
 
 after-requires : tie.Need-after-requires
 after-requires c κs =
@@ -151,17 +150,17 @@ after-requires c κs =
     let s = start-2 n in
     (s .pre .0, ((inside (counted f), f .choose-for .ensures .0, enabled-is n), s .pre .1))
 
-good-requires : tie.Need-good-requires
-good-requires c κs = (start-3 (allowed c) .pre .0, c .after .ensures .1 .1)
+reaches-requires : tie.Need-reaches-requires
+reaches-requires c κs = search (start-3 (allowed c) .pre, c .after .ensures)
 
 returns-4 : tie.Need-returns-4
 returns-4 c =
     let a = c .before in
     let s = start-3 (allowed a) in
-    let i = s .args .i in
+    let v = s .args .v in
     let x = none (allowed a) in
     let m = a .after .ensures in (
-      (c .good2 .ensures ∙ ends-good (plan s) _ (after (plan s) (at s) i) (m .1 .0) ∙ sym (uncaused (plan s) (at s) i x), sym x),
+      (c .reaches .ensures ∙ ap (λ (d : Configuration). reaches (plan s) v (d .oracles)) (m .1 .0) ∙ sym (uncaused-passes (plan s) v (at s) (s .args .i) x), sym x),
       λ y. (m .1 .0, m .1 .1, m .0),
     )
 
@@ -179,9 +178,9 @@ step-spec =
     bit-requires
     stopped-requires-2
     returns-2
-    good-above-requires
+    leading-above-requires
     stopped-requires-3
     returns-3
     after-requires
-    good-requires
+    reaches-requires
     returns-4)
