@@ -1,12 +1,15 @@
 /*
  * Yoblitan: the yard move supervisor, called from C. Link with libyard.a.
  *
- * An answer is one number: its kind times 65536 plus its own number (YARD_KIND, YARD_NUMBER).
+ * An answer is one number: its kind times 65536 plus its own number (YARD_KIND, YARD_NUMBER); that of a turn has
+ * the lane's number times 16777216 on top (YARD_LANE).
  * A call reads inside the lengths given to it, ends, keeps nothing, and needs no test before it:
- * a refusal is an answer like any other and changes no byte. A lawful plan has at most 16128 bytes.
+ * a refusal is an answer like any other and changes no byte, but for the waits where a turn's lane is refused.
+ * A lawful plan has at most 16128 bytes.
  *
- * The caller owes that each pointer is not null, even where the length is 0, and valid for its length, that the
- * image does not overlap the plan or a list, and that nobody else writes plan, image, log or list during the call.
+ * The caller owes that each pointer is not null, even where the length is 0, and valid for its length (a roster for
+ * its lanes), that the image does not overlap the plan or a list, that roster and images do not overlap each other or
+ * the plan, and that nobody else writes plan, image, log, list, roster or images during the call.
  */
 #ifndef YARD_H
 #define YARD_H
@@ -20,7 +23,15 @@ extern "C" {
 
 enum {
     YARD_IMAGE_BYTES = 312, /* the image of a lane */
-    YARD_LIST_MOVES = 8     /* the most moves of a list, 2 bytes each */
+    YARD_LIST_MOVES = 8,    /* the most moves of a list, 2 bytes each */
+    YARD_ROSTER_LANES = 8   /* the most lanes of a roster */
+};
+
+/* A lane's record in a roster: 4 bytes without padding, at an even address. */
+struct yard_lane {
+    uint8_t number; /* the record's place in the roster, from 0 */
+    uint8_t held;   /* 0 is free; with any other byte the lane is held and given no turn */
+    uint16_t wait;  /* turns waited */
 };
 
 /* Where an image keeps what, for a reader of images; a number has its lowest byte first. */
@@ -41,10 +52,11 @@ enum yard_kind {
     YARD_ACCEPTED = 0,  /* number 0 */
     YARD_COMMITTED = 1, /* number: the interaction, or of a list how many entries it has; the image holds the lane after it, with no marks */
     YARD_CANCELLED = 2, /* number: the interaction, whose mark is set and no other byte differs; or of a list where it stops, and no byte changes */
-    YARD_STALLED = 3,   /* number 0: no move is enabled; no byte changes */
+    YARD_STALLED = 3,   /* number 0: no move is enabled; no byte of the image changes */
     YARD_PENNED = 4,    /* number 0: moves are enabled, and none of them ends good; every enabled one is marked */
-    YARD_REFUSED = 5,   /* number: one of enum yard_refusal; no byte changes */
-    YARD_WRONG = 6      /* number: why an entry of a log is wrong, 16, 17 or 18, or 0 where it does not end good; yard_log_index says which entry */
+    YARD_REFUSED = 5,   /* number: one of enum yard_refusal; no byte changes, but for the waits where a turn's lane is refused */
+    YARD_WRONG = 6,     /* number: why an entry of a log is wrong, 16, 17 or 18, or 0 where it does not end good; yard_log_index says which entry */
+    YARD_IDLE = 7       /* number 0: every lane of a roster is held; no byte changes */
 };
 
 /* Why a call was refused. The first that applies, in the order of this list, is the answer. */
@@ -61,6 +73,7 @@ enum yard_refusal {
     YARD_BAD_ADDED = 20,      /* plan: the same in an added oracle */
     YARD_BAD_CODE = 10,       /* plan: a span or a code word */
     YARD_BAD_LENGTH = 11,     /* image: not 312 bytes */
+    YARD_BAD_ROSTER = 23,     /* turn, in place of 11: no lanes, more than YARD_ROSTER_LANES, numbers that do not run from 0, or images not 312 bytes a lane */
     YARD_OTHER_PLAN = 12,     /* image: bytes 0-7 or 12-15 do not match form 1 and the plan */
     YARD_BAD_STATE = 13,      /* image: an oracle state out of range or not good, a location or last port out of range, or an unused entry filled */
     YARD_FALSE_MARK = 14,     /* image: a mark on a move that is not enabled or would end good, or below an enabled one without a mark */
@@ -73,7 +86,8 @@ enum yard_refusal {
     YARD_MARKED = 19          /* try: it was tried in this state and does not end good */
 };
 
-#define YARD_KIND(answer) ((uint32_t)(answer) >> 16)
+#define YARD_LANE(answer) ((uint32_t)(answer) >> 24)
+#define YARD_KIND(answer) (((uint32_t)(answer) >> 16) & 0xffu)
 #define YARD_NUMBER(answer) ((uint32_t)(answer) & 0xffffu)
 
 /* Whether a plan is lawful: accepted, or refused with 1 to 10 or 20. */
@@ -101,6 +115,13 @@ uint32_t yard_settle(const uint8_t *plan, size_t plan_len, uint8_t *image, size_
  * of the plan included), or with the number of entries where only the end is not good; or refused with 1 to 14, 20 or 22. Unless it is committed
  * whole the image is untouched, marks included. */
 uint32_t yard_list(const uint8_t *plan, size_t plan_len, uint8_t *image, size_t image_len, const uint8_t *moves, size_t moves_len);
+
+/* Gives a turn to the lane that is not held and waited longest, the lowest number on a tie, and settles its image as yard_settle does; images holds
+ * those of all lanes end to end. The lane's wait becomes 0 and every other wait, a held lane's too, grows by one and stops at 65535. Answers with the
+ * lane: committed, stalled, penned, or refused with 12 to 14, which uses up the turn and leaves the image as it is. Answers of no lane (YARD_LANE
+ * is 0), where nothing changes: idle, or refused with 1 to 10, 20 or 23. A lane that is not held meanwhile has its turn within as many turns as
+ * there are lanes, if these alone change the waits. */
+uint32_t yard_turn(const uint8_t *plan, size_t plan_len, struct yard_lane *roster, size_t lanes, uint8_t *images, size_t images_len);
 
 /* Whether a log is a run from the starting state: moves of 16 bits each, lowest byte first, each of them enabled and ending good after those
  * before it, with no enabled move above it that ends good. Accepted (an empty log too), wrong, or refused with 1 to 10, 15, 20 or 21. */

@@ -4,7 +4,7 @@
 #include <string.h>
 
 #define ANSWER(kind, number) ((kind) * 65536u + (number))
-enum { ACCEPTED, COMMITTED, CANCELLED, STALLED, PENNED, REFUSED, WRONG };
+enum { ACCEPTED, COMMITTED, CANCELLED, STALLED, PENNED, REFUSED, WRONG, IDLE };
 
 static inline unsigned r16(const uint8_t *p) { uint16_t v; memcpy(&v, p, 2); return v; }
 static inline uint32_t r32(const uint8_t *p) { uint32_t v; memcpy(&v, p, 4); return v; }
@@ -419,11 +419,8 @@ static int marks_ok(const Site *s) {
   return 1;
 }
 
-/* Plan and image in, refusals 1 to 14 and 20. */
-static unsigned enter(Site *s, const uint8_t *plan, size_t plan_len, const uint8_t *b, size_t image_len) {
-  unsigned n = check(&s->plan, plan, plan_len);
-  if (n) return n;
-  if (image_len != 312) return 11;
+/* An image of 312 bytes in, refusals 12 to 14. */
+ALWAYS_INLINE unsigned enter_image(Site *s, const uint8_t *b) {
   if (!head_matches(&s->plan, b)) return 12;
   s->oracles = r32(b + 8);
   s->marks = r64(b + 16);
@@ -432,6 +429,13 @@ static unsigned enter(Site *s, const uint8_t *plan, size_t plan_len, const uint8
   moves(&s->plan, &s->lane, &s->moves);
   s->open = s->moves.enabled & ~s->marks;
   return marks_ok(s) ? 0 : 14;
+}
+
+/* Plan and image in, refusals 1 to 14 and 20. */
+static unsigned enter(Site *s, const uint8_t *plan, size_t plan_len, const uint8_t *b, size_t image_len) {
+  unsigned n = check(&s->plan, plan, plan_len);
+  if (n) return n;
+  return image_len == 312 ? enter_image(s, b) : 11;
 }
 
 /* ---- the calls ---- */
@@ -500,29 +504,70 @@ static inline uint64_t beside(const Plan *x, uint64_t set, unsigned n) {
 
 /* Each open move is made at most once before the one that is committed: one without open ones above is judged, a bad one is open no
    more, and after a good one only what could come before it is left. */
-uint32_t base_settle(const uint8_t *plan, size_t plan_len, uint8_t *image, size_t image_len) {
-  Site s;
+ALWAYS_INLINE uint32_t settled(Site *s, uint8_t *image) {
   Lane new;
-  unsigned n = enter(&s, plan, plan_len, image, image_len);
-  if (n) return ANSWER(REFUSED, n);
-  unsigned best = s.plan.I;
-  for (uint64_t left = s.open; left;) {
-    unsigned i = top(&s.plan, s.open, lowest(left));
-    States q = made(&s, i, &new);
-    if (good(&s.plan, q)) {
-      left = beside(&s.plan, left, i);
+  unsigned best = s->plan.I;
+  for (uint64_t left = s->open; left;) {
+    unsigned i = top(&s->plan, s->open, lowest(left));
+    States q = made(s, i, &new);
+    if (good(&s->plan, q)) {
+      left = beside(&s->plan, left, i);
       if (i >= best) continue;
       if (!left) { commit(image, q, &new); return ANSWER(COMMITTED, i); }
       best = i;
     } else {
-      s.open &= ~(1ull << i);
+      s->open &= ~(1ull << i);
       left &= ~(1ull << i);
     }
   }
-  if (best < s.plan.I) { States q = made(&s, best, &new); commit(image, q, &new); return ANSWER(COMMITTED, best); }
-  if (!s.moves.enabled) return ANSWER(STALLED, 0);
-  memcpy(image + 16, &s.moves.enabled, 8);
+  if (best < s->plan.I) { States q = made(s, best, &new); commit(image, q, &new); return ANSWER(COMMITTED, best); }
+  if (!s->moves.enabled) return ANSWER(STALLED, 0);
+  memcpy(image + 16, &s->moves.enabled, 8);
   return ANSWER(PENNED, 0);
+}
+
+uint32_t base_settle(const uint8_t *plan, size_t plan_len, uint8_t *image, size_t image_len) {
+  Site s;
+  unsigned n = enter(&s, plan, plan_len, image, image_len);
+  return n ? ANSWER(REFUSED, n) : settled(&s, image);
+}
+
+/* ---- turns ---- */
+
+typedef struct yard_lane Record;
+
+static inline int roster_ok(const Record *roster, size_t lanes, size_t images_len) {
+  if (lanes - 1 >= 8 || images_len != 312 * lanes) return 0;
+  for (size_t k = 0; k < lanes; k++) if (roster[k].number != k) return 0;
+  return 1;
+}
+
+/* The unheld lane that waited longest, the first of them on a tie; the number of lanes where all are held. */
+static inline size_t next_lane(const Record *roster, size_t lanes) {
+  size_t next = lanes;
+  for (size_t k = 0; k < lanes; k++)
+    if (!roster[k].held && (next == lanes || roster[k].wait > roster[next].wait)) next = k;
+  return next;
+}
+
+/* All waits grow but the one of the lane that had the turn. */
+static inline void move_on(Record *roster, size_t lanes, size_t served) {
+  for (size_t k = 0; k < lanes; k++) roster[k].wait = (uint16_t)(roster[k].wait + (roster[k].wait < 65535));
+  roster[served].wait = 0;
+}
+
+uint32_t base_turn(const uint8_t *plan, size_t plan_len, Record *roster, size_t lanes, uint8_t *images, size_t images_len) {
+  Site s;
+  unsigned n = check(&s.plan, plan, plan_len);
+  if (n) return ANSWER(REFUSED, n);
+  if (!roster_ok(roster, lanes, images_len)) return ANSWER(REFUSED, 23);
+  size_t lane = next_lane(roster, lanes);
+  if (lane == lanes) return ANSWER(IDLE, 0);
+  uint8_t *image = images + 312 * lane;
+  n = enter_image(&s, image);
+  uint32_t answer = n ? ANSWER(REFUSED, n) : settled(&s, image);
+  move_on(roster, lanes, lane);
+  return (uint32_t)lane << 24 | answer;
 }
 
 /* ---- lists ---- */

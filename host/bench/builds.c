@@ -1,8 +1,8 @@
 /* Two builds of the library, a second copy of the old one and the baseline in C, timed in turn in one run, best of rounds.
    What copy / old differs from 1 by is placement and noise; new / old is told from it only beyond that,
    and only if it is so again: equal builds have a cell above the greatest copy / old in about every second run.
-   Plans that the old build refuses are left out, and lists where it has none. Cells in which one of the four answers or writes something
-   else are marked and stand in no spread: there it does other work.
+   Plans that the old build refuses are left out, and lists or turns where it has none. Cells in which one of the four answers or writes
+   something else are marked and stand in no spread: there it does other work.
    builds ROUNDS PLAN... */
 #define _GNU_SOURCE
 #include "scenes.h"
@@ -64,10 +64,18 @@ static int leave_out(int argc, char **argv) {
   return argc < 2 ? argc : left;
 }
 
-int main(int argc, char **argv) {
+/* no-list.c and no-turn.c answer 0. */
+static void ask_old(void) {
   uint8_t none[1] = {0};
-  have_lists = old_list(none, 0, none, 0, none, 0) != 0; /* no-list.c answers 0 */
+  struct yard_lane nobody[1] = {{0}};
+  have_lists = old_list(none, 0, none, 0, none, 0) != 0;
+  have_turns = old_turn(none, 0, nobody, 0, none, 0) != 0;
   if (!have_lists) printf("lists are left out: the old build has none\n");
+  if (!have_turns) printf("turns are left out: the old build has none\n");
+}
+
+int main(int argc, char **argv) {
+  ask_old();
   argc = leave_out(argc, argv);
   int rounds = measure(engines, 4, argc, argv);
   printf("new / old, copy / old, best of %d rounds.\n\n", rounds);

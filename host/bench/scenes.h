@@ -14,6 +14,7 @@ enum { ENGINES = 4 };                    /* at most */
 enum { PLANS = 64, PASSES = 10 };        /* passes over all plans: other work falls on no cell's rounds alone */
 enum { DEPTHS = 7, DEPTH = 592 };        /* places of the stack within a page, tried in turn */
 enum { LIST = 16 };                      /* bytes of the longest list */
+enum { LANES = 8, IMAGES = LANES * IMAGE }; /* the most lanes of a turn */
 
 typedef struct {
   uint32_t (*check)(const uint8_t *, size_t);
@@ -22,19 +23,22 @@ typedef struct {
   uint32_t (*try)(const uint8_t *, size_t, uint8_t *, size_t, uint32_t);
   uint32_t (*settle)(const uint8_t *, size_t, uint8_t *, size_t);
   uint32_t (*list)(const uint8_t *, size_t, uint8_t *, size_t, const uint8_t *, size_t);
+  uint32_t (*turn)(const uint8_t *, size_t, struct yard_lane *, size_t, uint8_t *, size_t);
 } Engine;
 
-#define ENGINE(pre) {pre##_check, pre##_start, pre##_offered_bits, pre##_try, pre##_settle, pre##_list}
+#define ENGINE(pre) {pre##_check, pre##_start, pre##_offered_bits, pre##_try, pre##_settle, pre##_list, pre##_turn}
 
 typedef struct { uint8_t bytes[65536]; size_t len; } Plan;
-typedef struct { _Alignas(4096) uint8_t bytes[IMAGE]; } Image; /* a page, so that no engine has the better place */
+typedef struct { _Alignas(4096) uint8_t bytes[IMAGES]; } Images; /* a page, so that no engine has the better place; one lane has the first of them */
 
-enum column { CHECK, START, OFFERED, COMMITTED, CANCELLED, FIRST, SETTLE, WHOLE, STOPPED, COLUMNS };
+enum column { CHECK, START, OFFERED, COMMITTED, CANCELLED, FIRST, SETTLE, WHOLE, STOPPED, TURN, COLUMNS };
 static const char *const columns[COLUMNS] = {
   "check", "start", "offered", "try, committed", "try, cancelled", "settle, first", "settle, long run", "list, committed", "list, cancelled",
+  "turn of eight lanes",
 };
 
-/* A try, a first settling and a list begin from the image each time (its copying is timed too); the long run goes on from where it stopped. */
+/* A try, a first settling and a list begin from the image each time (its copying is timed too); the long run and the turns, whose eight lanes begin alike,
+   go on from where they stopped. */
 typedef struct { enum column column; uint8_t image[IMAGE]; uint32_t number; uint8_t list[LIST]; size_t list_len; } Job;
 
 /* there: whether the plan has this job. differ: whether the engines' answers or images did. best: ns a call of each engine. */
@@ -42,7 +46,7 @@ typedef struct { int there, differ; Job job; double best[ENGINES]; } Cell;
 
 static Plan plans[PLANS];
 static Cell cells[PLANS][COLUMNS];
-static int have_lists = 1; /* whether all engines do */
+static int have_lists = 1, have_turns = 1; /* whether all engines do */
 
 static double now(void) {
   struct timespec t;
@@ -50,8 +54,19 @@ static double now(void) {
   return (double)t.tv_sec * 1e9 + (double)t.tv_nsec;
 }
 
+/* All lanes free, with no wait. */
+static void free_lanes(struct yard_lane *roster) {
+  for (int k = 0; k < LANES; k++) roster[k] = (struct yard_lane){.number = (uint8_t)k};
+}
+
+/* The job's image for every lane. */
+static void lay_out(const Job *job, uint8_t *b) {
+  for (int k = 0; k < LANES; k++) memcpy(b + k * IMAGE, job->image, IMAGE);
+}
+
 /* Makes the call so often; the sum of the answers. */
 static uint64_t repeat(const Engine *e, const Plan *p, const Job *job, uint8_t *b, unsigned times) {
+  static struct yard_lane roster[LANES];
   uint64_t sum = 0;
   const uint8_t *plan = p->bytes;
   size_t len = p->len;
@@ -60,6 +75,10 @@ static uint64_t repeat(const Engine *e, const Plan *p, const Job *job, uint8_t *
   case START: for (unsigned k = 0; k < times; k++) sum += e->start(plan, len, b, IMAGE); break;
   case OFFERED: for (unsigned k = 0; k < times; k++) sum += e->bits(plan, len, b, IMAGE); break;
   case SETTLE: for (unsigned k = 0; k < times; k++) sum += e->settle(plan, len, b, IMAGE); break;
+  case TURN:
+    free_lanes(roster);
+    for (unsigned k = 0; k < times; k++) sum += e->turn(plan, len, roster, LANES, b, IMAGES);
+    break;
   case FIRST:
     for (unsigned k = 0; k < times; k++) {
       memcpy(b, job->image, IMAGE);
@@ -84,10 +103,10 @@ static uint64_t repeat(const Engine *e, const Plan *p, const Job *job, uint8_t *
 
 /* How many calls make a batch. */
 static unsigned batch(const Engine *e, const Plan *p, const Job *job) {
-  uint8_t b[IMAGE];
+  uint8_t b[IMAGES];
   unsigned times = 1;
   for (double took = 0; took < BATCH_NS; times *= 2) {
-    memcpy(b, job->image, IMAGE);
+    lay_out(job, b);
     double begin = now();
     repeat(e, p, job, b, times);
     took = now() - begin;
@@ -111,11 +130,11 @@ static int whose(int n, int r, int turn) {
 /* Lowers the cell's best to the best ns a call of each of n engines, in the rounds from one to before another, and notes whether they
    differ: those that do go on from images of their own. */
 static void time_job(const Engine *e, int n, const Plan *p, int from, int to, Cell *cell) {
-  static Image b[ENGINES];
+  static Images b[ENGINES];
   uint64_t sum[ENGINES];
   const Job *job = &cell->job;
   unsigned times = batch(e, p, job);
-  for (int k = 0; k < n; k++) memcpy(b[k].bytes, job->image, IMAGE);
+  for (int k = 0; k < n; k++) lay_out(job, b[k].bytes);
   for (int r = from; r < to; r++) {
     for (int turn = 0; turn < n; turn++) {
       int who = whose(n, r, turn);
@@ -124,7 +143,7 @@ static void time_job(const Engine *e, int n, const Plan *p, int from, int to, Ce
       double took = (now() - begin) / times;
       if (took < cell->best[who]) cell->best[who] = took;
     }
-    for (int k = 1; k < n; k++) cell->differ |= sum[k] != sum[0] || memcmp(b[k].bytes, b[0].bytes, IMAGE);
+    for (int k = 1; k < n; k++) cell->differ |= sum[k] != sum[0] || memcmp(b[k].bytes, b[0].bytes, IMAGES);
   }
 }
 
@@ -198,8 +217,8 @@ static int make_job(const Plan *p, enum column column, Job *job) {
   if (column == CANCELLED) return find_try(p, 2, job);
   if (column == WHOLE) return have_lists && find_list(p, job);
   if (column == STOPPED) return have_lists && find_stop(p, job);
-  if (column == OFFERED || column == FIRST || column == SETTLE) base_start(p->bytes, p->len, job->image, IMAGE);
-  return 1;
+  if (column == OFFERED || column == FIRST || column == SETTLE || column == TURN) base_start(p->bytes, p->len, job->image, IMAGE);
+  return column != TURN || have_turns;
 }
 
 static void load(const char *path, Plan *p) {

@@ -1,6 +1,6 @@
 /* The most stack that each call of libyard.a takes, in bytes below the caller's stack pointer: the calls are made on a painted stack, over
    walks by random tries through the plans, marks included. The log is that of the walk's moves with the next try behind, right or wrong; the
-   list has the eight moves that settling goes on with, or fewer and the next try.
+   list has the eight moves that settling goes on with, or fewer and the next try; the eight lanes of a turn are alike.
    measure-stack PLAN... */
 #define _GNU_SOURCE
 #include "scenes.h"
@@ -15,7 +15,7 @@ static ucontext_t home;
 static uint8_t *top; /* the stack pointer at the call */
 static const Plan *plan;
 static const Job *job;
-static uint8_t image[IMAGE];
+static uint8_t images[IMAGES]; /* all calls but a turn take the first of them */
 static uint8_t moves[2 * STEPS]; /* those of the walk, as a log */
 static size_t moves_len;
 
@@ -24,7 +24,7 @@ static void call(void) {
   switch ((int)job->column) {
   case LOG: yard_log(plan->bytes, plan->len, moves, moves_len); break;
   case LOG_INDEX: yard_log_index(plan->bytes, plan->len, moves, moves_len); break;
-  default: repeat(&yard, plan, job, image, 1);
+  default: repeat(&yard, plan, job, images, 1);
   }
 }
 
@@ -32,7 +32,7 @@ static void call(void) {
 static size_t taken(const Plan *p, const Job *j) {
   ucontext_t away;
   plan = p, job = j;
-  memcpy(image, j->image, IMAGE);
+  lay_out(j, images);
   memset(room, PAINT, ROOM);
   getcontext(&away);
   away.uc_stack.ss_sp = room, away.uc_stack.ss_size = ROOM, away.uc_link = &home;

@@ -4,7 +4,7 @@ use std::env;
 use std::path::{Path, PathBuf};
 use std::process::Command;
 
-const CALLS: [&str; 9] = [
+const CALLS: [&str; 10] = [
     "check",
     "start",
     "offered",
@@ -12,6 +12,7 @@ const CALLS: [&str; 9] = [
     "try",
     "settle",
     "list",
+    "turn",
     "log",
     "log_index",
 ];
@@ -29,7 +30,7 @@ fn main() {
     }
     let library = out.join("libbaseline.a");
     run(Command::new("ar").arg("rcs").arg(library).args(&objects));
-    for file in ["baseline.c", "baseline.h"] {
+    for file in ["baseline.c", "baseline.h", "../../include/yard.h"] {
         println!("cargo:rerun-if-changed={}", bench.join(file).display());
     }
     println!("cargo:rustc-link-search=native={}", out.display());

@@ -213,6 +213,54 @@ static void do_plan(struct bridge *b, const char *path)
     report_answer(yard_check(b->plan, b->plan_len), "plan accepted");
 }
 
+static void do_lane(struct bridge *b, const char *path)
+{
+    box_take(&b->box, path);
+}
+
+static void mark_lane(struct bridge *b, const char *text, bool held)
+{
+    uint32_t lane;
+    if (parse_number(text, &lane) && lane < b->box.lanes)
+        box_mark(&b->box, lane, held);
+    else
+        printf("the box has no lane %s\n", text);
+}
+
+static void do_hold(struct bridge *b, const char *text)
+{
+    mark_lane(b, text, true);
+}
+
+static void do_free(struct bridge *b, const char *text)
+{
+    mark_lane(b, text, false);
+}
+
+static void do_turn(struct bridge *b, const char *unused)
+{
+    (void)unused;
+    box_turn(&b->box, b->plan, b->plan_len);
+}
+
+static void do_roster(struct bridge *b, const char *unused)
+{
+    (void)unused;
+    box_show(&b->box);
+}
+
+static void do_store(struct bridge *b, const char *unused)
+{
+    (void)unused;
+    box_store(&b->box);
+}
+
+static void do_leave(struct bridge *b, const char *unused)
+{
+    (void)unused;
+    box_leave(&b->box);
+}
+
 static void do_quit(struct bridge *b, const char *unused)
 {
     (void)unused;
@@ -237,6 +285,13 @@ static const struct command {
     {"log", "a file name", do_log},
     {"moves", "a file name", do_moves},
     {"start", NULL, do_start},
+    {"lane", "a file name", do_lane},
+    {"hold", "a lane number", do_hold},
+    {"free", "a lane number", do_free},
+    {"turn", NULL, do_turn},
+    {"roster", NULL, do_roster},
+    {"store", NULL, do_store},
+    {"leave", NULL, do_leave},
     {"quit", NULL, do_quit},
 };
 
@@ -278,7 +333,8 @@ void bridge_obey(struct bridge *b, char *line)
     char *rest = cut_rest(name);
     const struct command *command = find(name);
     if (command == NULL)
-        puts("unknown command: say offered, try, settle, list, weights, locations, marks, save, load, plan, log, moves, start or quit");
+        puts("unknown command: say offered, try, settle, list, weights, locations, marks, save, load, plan, log, moves, start, lane, hold, free, turn, "
+             "roster, store, leave or quit");
     else if (command->needs == NULL && *rest != '\0')
         printf("%s stands alone on its line\n", command->name);
     else if (command->needs != NULL && *rest == '\0')

@@ -2,6 +2,7 @@
 #ifndef COMMANDS_H
 #define COMMANDS_H
 
+#include "box.h"
 #include "yard.h"
 
 #include <stdbool.h>
@@ -21,6 +22,7 @@ struct bridge {
     uint8_t moves[MOVES_BYTES]; /* the moves since the lane was started, as a log */
     size_t moves_len;
     bool has_moves; /* all of them are kept, and the plan is still that of the start */
+    struct box box; /* the lanes that are served in turn, apart from the one above */
     bool done;      /* the clerk has said quit */
 };
 

@@ -4,6 +4,7 @@
 
 #include <errno.h>
 #include <inttypes.h>
+#include <stdbool.h>
 #include <stdio.h>
 #include <string.h>
 
@@ -34,6 +35,7 @@ static const char *const refusals[] = {
     "an added oracle of the plan is faulty (ask the planner)",
     "the log has an odd number of bytes (ask whoever wrote it)",
     "the list has no moves, more than 8, or an odd number of bytes (hand in 1 to 8 moves)",
+    "the box has no lanes or more than 8, or their numbers or images do not fit (take 1 to 8 lanes)",
 };
 
 static void report_refusal(uint32_t number)
@@ -64,6 +66,9 @@ void report_answer(uint32_t answer, const char *accepted)
     case YARD_REFUSED:
         report_refusal(number);
         break;
+    case YARD_IDLE:
+        puts("idle: every lane is held");
+        break;
     default:
         printf("answer %" PRIu32 " is unknown to this program (ask the programmer)\n", answer);
     }
@@ -80,6 +85,21 @@ void report_list(uint32_t answer, size_t entries)
         printf("list is cancelled, nothing is changed: entry %" PRIu32 " is not allowed there\n", number);
     else
         puts("list is cancelled, nothing is changed: after its last move the lane would not be good");
+}
+
+/* Whether a turn was a lane's: not idle, and not refused for the plan or the roster. */
+static bool is_of_lane(uint32_t answer)
+{
+    if (YARD_KIND(answer) == YARD_REFUSED)
+        return YARD_NUMBER(answer) >= YARD_OTHER_PLAN && YARD_NUMBER(answer) <= YARD_FALSE_MARK;
+    return YARD_KIND(answer) != YARD_IDLE;
+}
+
+void report_turn(uint32_t answer)
+{
+    if (is_of_lane(answer))
+        printf("lane %" PRIu32 ": ", YARD_LANE(answer));
+    report_answer(answer, "accepted");
 }
 
 /* Why an entry of a log is wrong. */

@@ -11,6 +11,9 @@ void report_answer(uint32_t answer, const char *accepted);
 /* The answer on a list of so many entries in words. */
 void report_list(uint32_t answer, size_t entries);
 
+/* The answer to a turn in words, with the lane where it is some lane's. */
+void report_turn(uint32_t answer);
+
 /* The answer on a log in words, with the index of its first wrong entry. */
 void report_log(uint32_t answer, uint64_t index);
 

@@ -1,5 +1,6 @@
 // What a call answers.
 ghost use mathlib.Core.Path.{_≡_};
+ghost use Prim.Native.Nat.{_<_};
 ghost use Rattle.semantics.specs.Calls.{packed};
 ghost use Rattle.engine.specs.Answers.{answerOf};
 
@@ -20,9 +21,9 @@ pub struct Reply {
     pub bits: u64,
 }
 
-// The answer as one number, kind * 65536 + number.
+// The answer as one number, kind * 65536 + number; the kind is below 7.
 pub fn packed(a: Answer) -> u32
-    ensures { λ r. ⌜ r ≡ packed (answerOf a) ⌝ }
+    ensures { λ r. ⌜ (r ≡ packed (answerOf a)) × (r < 458752) ⌝ }
 {
     match a {
         Answer::Accepted => 0,

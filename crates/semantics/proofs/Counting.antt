@@ -82,7 +82,7 @@ module _ (f g : ℕ → Bool) where
       low : (m : ℕ) → 0 ≤ m
       low m = omega arith
 
-  no-more : (n : ℕ) → ((k : ℕ) → k < n → f k ≡ true → g k ≡ true) → count n f ≤ count n g
+  pub no-more : (n : ℕ) → ((k : ℕ) → k < n → f k ≡ true → g k ≡ true) → count n f ≤ count n g
   unfolding satisfying
   no-more zero h = le-refl 0
   no-more (suc n) h = rw (count-last n f, count-last n g) (sum (no-more n (one-more n h)) (last-le n (h n (omega arith))))

@@ -20,6 +20,7 @@ pub mod GuardsPure
 pub mod Images
 pub mod ImagesRead
 pub mod LawfulImage
+pub mod Lengths
 pub mod ListExactly
 pub mod Loads
 pub mod LogEntries

@@ -1,12 +1,16 @@
 // The calls that C programs make: include/yard.h. An answer is one number, kind * 65536 + number.
 use engine::answer;
 use engine::calls;
+use roster::record::Lane;
+use roster::rows;
+use roster::serve;
 use walks::list;
 use walks::log;
 ghost use mathlib.Core.Path.{_≡_};
 ghost use Rattle.semantics.specs.Calls.{packed, check, start, called, offeredBits};
 ghost use Rattle.semantics.specs.Log.{checkLog, logIndex};
 ghost use Rattle.semantics.specs.Calls.Call.{offered, try, settle, list};
+ghost use Rattle.roster.specs.Turn.{packedTurn, dispatch};
 
 // Whether a plan is lawful: accepted, or refused with 1 to 10 or 20.
 #[no_mangle]
@@ -86,4 +90,17 @@ pub extern "C" fn yard_log_index(plan: &[u8], log: &[u8]) -> u64
 {
     let found = log::check_log(plan, log);
     found.bits
+}
+
+// Gives the turn to the lane that waited longest, and settles it: lane * 16777216 + the settling's answer; idle where all are held; or refused with 1 to 10, 20 or
+// 23.
+#[no_mangle]
+pub extern "C" fn yard_turn(plan: &[u8], roster: &mut [Lane], images: &mut [u8]) -> u32
+    ensures { λ r. ⌜ (r ≡ packedTurn (dispatch (now (plan .entry)) (now (roster .entry)) (now (images .entry)) .answer)) × (now (roster .exit) ≡ dispatch (now (plan .entry)) (now (roster .entry)) (now (images .entry)) .roster) × (now (images .exit) ≡ dispatch (now (plan .entry)) (now (roster .entry)) (now (images .entry)) .images) ⌝ }
+{
+    let scan = rows::scan(roster);
+    let lanes = roster.len();
+    let turn = serve::serve(plan, images, scan, lanes);
+    rows::grow(roster, turn.lane);
+    turn.answer
 }

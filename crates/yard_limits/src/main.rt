@@ -1,7 +1,7 @@
-// Runs the plan check, the calls on an image, both with added oracles, sums, ranks with marks, the
-// check of a log and lists of moves, at their limits: for each case a line with the case and the answer, of a log a second
-// one with the index. What the modules of the cases share stands here, private to them: lawful plans laid
-// into a buffer, and the lines of the calls.
+// Runs the plan check, the calls on an image, both with added oracles, sums, ranks with marks, the check of a log, lists
+// of moves and turns, at their limits: for each case a line with the case and the answer, of a log a second one with the
+// index, of a turn more on what it left. What the modules of the cases share stands here, private to them: lawful plans
+// laid into a buffer, and the lines of the calls.
 mod calls;
 mod checks;
 mod lists;
@@ -10,6 +10,7 @@ mod oracle_calls;
 mod oracle_checks;
 mod rank_calls;
 mod sums;
+mod turns;
 
 ghost use Prim.Native.Nat.{_≤_};
 
@@ -289,4 +290,5 @@ fn main() {
     rank_calls::run();
     logs::run();
     lists::run();
+    turns::run();
 }

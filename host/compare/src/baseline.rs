@@ -9,6 +9,7 @@ yard::engine!(
     "base_try",
     "base_settle",
     "base_list",
+    "base_turn",
     "base_log",
     "base_log_index"
 );

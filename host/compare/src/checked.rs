@@ -3,6 +3,7 @@
 use reference::answer::Answer;
 use reference::calls;
 use reference::log;
+use reference::roster;
 use reference::sums;
 
 use crate::causes::cause;
@@ -13,20 +14,35 @@ use crate::halves::halves;
 use crate::lent::{End, Lent, LentPlan, ENDS};
 use crate::lists::listed;
 use crate::logs::shown;
-use crate::older;
+use crate::older::Has;
 use crate::ranking::Ranked;
+use crate::roster::Roster;
 use crate::tally::Tally;
+use crate::turns::Made;
 
-/// The longest image and the longest list, lawful or not, and the longest log have fewer bytes.
-const ROOM: usize = 2000;
+/// The longest image, list, roster and buffer of images, lawful or not, and the longest log have fewer bytes.
+const ROOM: usize = 3000;
 
 /// The call's result, on which all agree.
 pub struct Outcome {
     pub answer: Answer,
     /// The bits of the moves on offer, or the index of a log's first wrong entry.
     pub bits: u64,
-    /// The image, or the log as it was.
+    /// The image, the log as it was, or the buffer of images.
     pub image: Vec<u8>,
+    /// Of a turn, the lane that had it.
+    pub lane: Option<usize>,
+    /// Of a turn, the roster after it.
+    pub roster: Option<Roster>,
+}
+
+impl Outcome {
+    pub fn reply(&self, call: Call) -> Reply {
+        match self.roster {
+            Some(roster) => Reply::of_turn(self.lane, self.answer, roster),
+            None => Reply::of(call, self.answer, self.bits),
+        }
+    }
 }
 
 pub type Checked<T> = Result<T, Box<Difference>>;
@@ -36,7 +52,7 @@ struct Question<'a> {
     call: Call,
     number: u64,
     plan: &'a LentPlan,
-    /// The image or the log.
+    /// The image, the log or the buffer of images.
     lent: &'a [u8],
 }
 
@@ -46,7 +62,8 @@ pub struct Comparer {
     /// Another build of the library.
     older: Option<Engine>,
     lent: Lent,
-    list: Lent,
+    /// The list or the roster.
+    on_top: Lent,
 }
 
 impl Comparer {
@@ -61,7 +78,7 @@ impl Comparer {
             library,
             older: None,
             lent: Lent::new(ROOM),
-            list: Lent::new(ROOM),
+            on_top: Lent::new(ROOM),
         }
     }
 
@@ -71,9 +88,9 @@ impl Comparer {
         self
     }
 
-    /// Whether all of them have lists, and so verdict 1.
-    pub fn has_lists(&self) -> bool {
-        self.older.is_none_or(older::has_lists)
+    /// What all of them have.
+    pub fn has(&self) -> Has {
+        self.older.map_or(Has::ALL, Has::of)
     }
 
     /// The names of all that are compared.
@@ -122,14 +139,16 @@ impl Comparer {
         outcome: &Outcome,
     ) -> Checked<()> {
         let reply = self.ask(engine, end, question);
-        let expected = Reply::of(question.call, outcome.answer, outcome.bits);
+        let expected = outcome.reply(question.call);
         let after = self.lent.bytes();
         let what = if reply != expected {
-            "answer"
+            "answer, or roster of a turn"
         } else if after != outcome.image {
             "image"
         } else if keeps_all(question.call, outcome.answer) && after != question.lent {
-            "image of a refused call or a list that was not committed"
+            "image of a refused call, an idle turn or a list that was not committed"
+        } else if !keeps_roster(question.call, outcome) {
+            "roster of a turn that no lane had"
         } else {
             return Ok(());
         };
@@ -145,13 +164,13 @@ impl Comparer {
         }))
     }
 
-    /// Lends the plan, a copy of the image or log, and the list, and makes the call.
+    /// Lends the plan, a copy of the image, log or buffer, and of the list or roster, and makes the call.
     fn ask(&mut self, engine: Engine, end: End, question: &Question) -> Reply {
         self.lent.put(end, question.lent);
-        let list = question.call.list();
-        if let Some(list) = list {
-            self.list.put(end, list.bytes());
-        }
+        let on_top = question.call.on_top().map(|(name, bytes)| {
+            self.on_top.put(end, bytes);
+            (name, addresses(self.on_top.bytes()))
+        });
         let plan = question.plan.at(end);
         let case = Case {
             seed: self.seed,
@@ -161,18 +180,27 @@ impl Comparer {
             end,
             plan: addresses(plan),
             lent: addresses(self.lent.bytes()),
-            list: list.map(|_| addresses(self.list.bytes())),
+            on_top,
         };
         fault::during(&case, || {
-            engine.make(question.call, plan, &mut self.lent, &mut self.list)
+            engine.make(question.call, plan, &mut self.lent, &mut self.on_top)
         })
     }
 }
 
-/// Whether no byte may change.
+/// Whether no byte of the image or of the buffer may change.
 fn keeps_all(call: Call, answer: Answer) -> bool {
-    let is_list = call.list().is_some();
-    answer.kind() == yard::REFUSED || is_list && answer.kind() != yard::COMMITTED
+    let is_list = matches!(call, Call::List(_));
+    matches!(answer, Answer::Refused(_) | Answer::Idle)
+        || is_list && answer.kind() != yard::COMMITTED
+}
+
+/// Whether a roster is as it was where no lane had the turn.
+fn keeps_roster(call: Call, outcome: &Outcome) -> bool {
+    match call {
+        Call::Turn(roster) if outcome.lane.is_none() => outcome.roster == Some(roster),
+        _ => true,
+    }
 }
 
 fn addresses(bytes: &[u8]) -> std::ops::Range<usize> {
@@ -184,6 +212,9 @@ fn addresses(bytes: &[u8]) -> std::ops::Range<usize> {
 fn count(tally: &mut Tally, plan: &[u8], lent: &[u8], call: Call, outcome: &Outcome) {
     let answer = outcome.answer;
     tally.count(call, answer);
+    if let Call::Turn(roster) = &call {
+        return count_turn(tally, plan, lent, roster, outcome);
+    }
     if let Some(cause) = cause(call, plan, lent, answer) {
         tally.cause(cause);
     }
@@ -203,6 +234,31 @@ fn count(tally: &mut Tally, plan: &[u8], lent: &[u8], call: Call, outcome: &Outc
     }
 }
 
+fn count_turn(tally: &mut Tally, plan: &[u8], images: &[u8], roster: &Roster, outcome: &Outcome) {
+    let made = Made {
+        plan,
+        roster: &roster.records(),
+        images,
+        lane: outcome.lane,
+        answer: outcome.answer,
+    };
+    let (turned, no_turn) = (made.turned(), made.no_turn());
+    turned.into_iter().for_each(|what| tally.turned(what));
+    no_turn.into_iter().for_each(|what| tally.no_turn(what));
+}
+
+fn turn_by_reference(plan: &[u8], roster: Roster, images: &[u8]) -> Outcome {
+    let (mut records, mut image) = (roster.records(), images.to_vec());
+    let (lane, answer) = roster::turn(plan, &mut records, &mut image);
+    Outcome {
+        answer,
+        bits: 0,
+        image,
+        lane,
+        roster: Some(Roster::of(&records)),
+    }
+}
+
 fn by_reference(call: Call, plan: &[u8], lent: &[u8]) -> Outcome {
     let mut image = lent.to_vec();
     let (answer, bits) = match call {
@@ -212,12 +268,15 @@ fn by_reference(call: Call, plan: &[u8], lent: &[u8]) -> Outcome {
         Call::Try(number) => (calls::attempt(plan, &mut image, number), 0),
         Call::Settle => (calls::settle(plan, &mut image), 0),
         Call::List(list) => (calls::list(plan, &mut image, list.bytes()), 0),
+        Call::Turn(roster) => return turn_by_reference(plan, roster, lent),
         Call::Log | Call::LogIndex => log::check(plan, lent),
     };
     Outcome {
         answer,
         bits,
         image,
+        lane: None,
+        roster: None,
     }
 }
 

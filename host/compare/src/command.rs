@@ -33,8 +33,8 @@ impl Run {
     fn start(self, comparer: Comparer) -> ExitCode {
         fault::watch();
         println!("{}: seed {}\n", comparer.names(), self.seed);
-        if !comparer.has_lists() {
-            println!("lists and plans with verdict 1 are left out: the older build has neither\n");
+        if let Some(lacking) = comparer.has().lacking() {
+            println!("{lacking}\n");
         }
         let mut session = Session::new(self.seed, comparer);
         let difference = session.compare(self.calls).err();

@@ -12,10 +12,10 @@ pub struct Difference {
     /// Who said what, and who expected what.
     pub said: (&'static str, Reply),
     pub expected: (&'static str, Reply),
-    /// The first byte of the image that differs, if one does.
+    /// The first byte of the image or of the buffer that differs, if one does.
     pub first_byte: Option<usize>,
     pub plan: Vec<u8>,
-    /// The image before the call, or the log.
+    /// The image before the call, the log, or the buffer of images.
     pub lent: Vec<u8>,
 }
 
@@ -33,8 +33,8 @@ impl Difference {
         }
         self.save(seed, "plan", &self.plan);
         self.save(seed, lends, &self.lent);
-        if let Some(list) = self.call.list() {
-            self.save(seed, "list", list.bytes());
+        if let Some((name, bytes)) = self.call.on_top() {
+            self.save(seed, name, bytes);
         }
     }
 

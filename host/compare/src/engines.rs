@@ -1,11 +1,12 @@
 //! The calls, and the engines that are asked to make them.
 
 use reference::book;
-use yard::Answer;
+use yard::{Answer, Lane, Turn};
 
 use crate::baseline;
 use crate::lent::Lent;
 use crate::list::List;
+use crate::roster::{self, Roster};
 
 #[derive(Clone, Copy, Debug, PartialEq, Eq)]
 pub enum Call {
@@ -16,6 +17,7 @@ pub enum Call {
     Try(u32),
     Settle,
     List(List),
+    Turn(Roster),
     Log,
     LogIndex,
 }
@@ -31,8 +33,9 @@ impl Call {
             Call::Try(_) => 4,
             Call::Settle => 5,
             Call::List(_) => 6,
-            Call::Log => 7,
-            Call::LogIndex => 8,
+            Call::Turn(_) => 7,
+            Call::Log => 8,
+            Call::LogIndex => 9,
         }
     }
 
@@ -40,27 +43,28 @@ impl Call {
         matches!(self, Call::Log | Call::LogIndex)
     }
 
-    /// What is lent beside the plan; a list comes on top.
+    /// What is lent beside the plan.
     pub fn lends(self) -> &'static str {
-        if self.is_of_log() {
-            "log"
-        } else {
-            "image"
+        match self {
+            Call::Log | Call::LogIndex => "log",
+            Call::Turn(_) => "buffer",
+            _ => "image",
         }
     }
 
-    /// The list that is handed in.
-    pub fn list(&self) -> Option<&List> {
+    /// What is lent on top, with its name: a list or a roster.
+    pub fn on_top(&self) -> Option<(&'static str, &[u8])> {
         match self {
-            Call::List(list) => Some(list),
+            Call::List(list) => Some(("list", list.bytes())),
+            Call::Turn(roster) => Some(("roster", roster.bytes())),
             _ => None,
         }
     }
 
-    /// What the book is told; nothing of a check or a log, which have no lane.
+    /// What the book is told; nothing of a check or a log, which have no lane, nor of a turn, which has several.
     pub fn told(&self) -> Option<book::Call<'_>> {
         match self {
-            Call::Check | Call::Log | Call::LogIndex => None,
+            Call::Check | Call::Turn(_) | Call::Log | Call::LogIndex => None,
             Call::Start => Some(book::Call::Start),
             Call::Offered | Call::Bits => Some(book::Call::Offered),
             Call::Try(number) => Some(book::Call::Try(*number)),
@@ -76,10 +80,12 @@ pub enum Reply {
     Answer(Answer),
     Bits(u64),
     Index(u64),
+    /// And the roster that is left.
+    Turn(Turn, Roster),
 }
 
 impl Reply {
-    /// The bits are the index where a log was checked.
+    /// The bits are the index where a log was checked; a turn has its own.
     pub fn of(call: Call, answer: reference::answer::Answer, bits: u64) -> Reply {
         match call {
             Call::Bits => Reply::Bits(bits),
@@ -89,6 +95,17 @@ impl Reply {
                 number: answer.number(),
             }),
         }
+    }
+
+    /// The answer to a turn, and the roster after it.
+    pub fn of_turn(
+        lane: Option<usize>,
+        answer: reference::answer::Answer,
+        roster: Roster,
+    ) -> Reply {
+        let lane = lane.unwrap_or(0) as u32;
+        let packed = (lane << 24) + (answer.kind() << 16) + answer.number();
+        Reply::Turn(yard::turn_of(packed), roster)
     }
 }
 
@@ -103,6 +120,7 @@ pub struct Engine {
     pub attempt: fn(&[u8], &mut [u8], u32) -> Answer,
     pub settle: fn(&[u8], &mut [u8]) -> Answer,
     pub list: fn(&[u8], &mut [u8], &[u8]) -> Answer,
+    pub turn: fn(&[u8], &mut [Lane], &mut [u8]) -> Turn,
     pub log: fn(&[u8], &[u8]) -> Answer,
     pub log_index: fn(&[u8], &[u8]) -> u64,
 }
@@ -116,6 +134,7 @@ pub const LIBRARY: Engine = Engine {
     attempt: yard::attempt,
     settle: yard::settle,
     list: yard::list,
+    turn: yard::turn,
     log: yard::log,
     log_index: yard::log_index,
 };
@@ -129,13 +148,14 @@ pub const BASELINE: Engine = Engine {
     attempt: baseline::attempt,
     settle: baseline::settle,
     list: baseline::list,
+    turn: baseline::turn,
     log: baseline::log,
     log_index: baseline::log_index,
 };
 
 impl Engine {
-    /// Makes the call; image or log is lent for writing only where the call may write, and a list for reading.
-    pub fn make(&self, call: Call, plan: &[u8], lent: &mut Lent, list: &mut Lent) -> Reply {
+    /// Makes the call; image or log is lent for writing only where the call may write, a list for reading, and a roster for writing.
+    pub fn make(&self, call: Call, plan: &[u8], lent: &mut Lent, on_top: &mut Lent) -> Reply {
         Reply::Answer(match call {
             Call::Check => (self.check)(plan),
             Call::Start => (self.start)(plan, lent.bytes_mut()),
@@ -143,9 +163,16 @@ impl Engine {
             Call::Bits => return Reply::Bits((self.bits)(plan, lent.locked())),
             Call::Try(number) => (self.attempt)(plan, lent.bytes_mut(), number),
             Call::Settle => (self.settle)(plan, lent.bytes_mut()),
-            Call::List(_) => (self.list)(plan, lent.bytes_mut(), list.locked()),
+            Call::List(_) => (self.list)(plan, lent.bytes_mut(), on_top.locked()),
+            Call::Turn(_) => return self.give_turn(plan, on_top, lent),
             Call::Log => (self.log)(plan, lent.locked()),
             Call::LogIndex => return Reply::Index((self.log_index)(plan, lent.locked())),
         })
+    }
+
+    fn give_turn(&self, plan: &[u8], roster: &mut Lent, images: &mut Lent) -> Reply {
+        let lanes = roster::lanes(roster.bytes_mut());
+        let turn = (self.turn)(plan, lanes, images.bytes_mut());
+        Reply::Turn(turn, Roster::new(roster.bytes()))
     }
 }

@@ -46,9 +46,10 @@ pub struct Case {
     pub call: Call,
     pub end: End,
     pub plan: Range<usize>,
-    /// The image or the log.
+    /// The image, the log or the buffer of images.
     pub lent: Range<usize>,
-    pub list: Option<Range<usize>>,
+    /// The list or the roster, with its name.
+    pub on_top: Option<(&'static str, Range<usize>)>,
 }
 
 /// Null while no call is made.
@@ -107,15 +108,15 @@ fn say(text: &mut Text, case: &Case, address: usize) -> fmt::Result {
     let lends = call.lends();
     write!(text, " ({} bytes), {lends}", case.plan.len())?;
     write!(text, " ({})", case.lent.len())?;
-    if let Some(list) = &case.list {
-        write!(text, ", list ({})", list.len())?;
+    if let Some((name, lent)) = &case.on_top {
+        write!(text, ", {name} ({})", lent.len())?;
     }
     writeln!(text, " at a guard page")?;
     write!(text, "compare: the run stops: the call ")?;
-    let list = case.list.iter().map(|list| ("list", list));
+    let on_top = case.on_top.iter().map(|(name, lent)| (*name, lent));
     for (name, lent) in [("plan", &case.plan), (lends, &case.lent)]
         .into_iter()
-        .chain(list)
+        .chain(on_top)
     {
         if let Some((done, bytes, place)) = doing(lent, address) {
             return writeln!(text, "{done} {bytes} {place} the {name}");

@@ -13,6 +13,7 @@ yard::engine!(
     "lenient_try",
     "lenient_settle",
     "lenient_list",
+    "lenient_turn",
     "lenient_log",
     "lenient_log_index"
 );
@@ -35,6 +36,7 @@ fn an_engine_to_which_verdict_1_is_good_is_found_out_in_each_call() {
         Engine { attempt, ..right },
         Engine { settle, ..right },
         Engine { list, ..right },
+        Engine { turn, ..right },
         Engine { log, ..right },
         Engine { log_index, ..right },
     ] {

@@ -20,6 +20,7 @@ pub mod lists;
 pub mod loads;
 pub mod logs;
 mod named;
+pub mod no_turns;
 pub mod older;
 pub mod oracle;
 pub mod pages;
@@ -29,10 +30,13 @@ pub mod ranking;
 #[cfg(test)]
 mod ranks_first;
 pub mod rng;
+pub mod roster;
+pub mod rosters;
 pub mod runs;
 pub mod sequences;
 pub mod spoil;
 pub mod tally;
+pub mod turns;
 pub mod words;
 #[cfg(test)]
 mod wrapping;
@@ -40,3 +44,7 @@ mod wrapping;
 mod wrong_lists;
 #[cfg(test)]
 mod wrong_logs;
+#[cfg(test)]
+mod wrong_rosters;
+#[cfg(test)]
+mod wrong_turns;

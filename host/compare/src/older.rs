@@ -1,10 +1,42 @@
-//! What an older build of the library may lack: lists, and with them verdict 1.
+//! What an older build of the library may lack: lists, and with them verdict 1, and turns.
+
+use yard::Turn;
 
 use crate::engines::Engine;
 
-/// Whether the engine has lists: in an older build without them a stub that accepts everything stands for the call (`no-list.c` of host/bench).
-pub fn has_lists(engine: Engine) -> bool {
-    (engine.list)(&[], &mut [], &[]).kind == yard::REFUSED
+/// What the engines that are compared have.
+#[derive(Clone, Copy, Debug, PartialEq, Eq)]
+pub struct Has {
+    /// And so verdict 1.
+    pub lists: bool,
+    pub turns: bool,
+}
+
+impl Has {
+    pub const ALL: Has = Has {
+        lists: true,
+        turns: true,
+    };
+
+    /// What an older build has: a stub that refuses nothing stands for a call that it lacks (`host/bench`).
+    pub fn of(engine: Engine) -> Has {
+        let turn = (engine.turn)(&[], &mut [], &mut []);
+        Has {
+            lists: (engine.list)(&[], &mut [], &[]).kind == yard::REFUSED,
+            turns: matches!(turn, Turn::Refused(_)),
+        }
+    }
+
+    /// What is left out, where something is.
+    pub fn lacking(self) -> Option<&'static str> {
+        match (self.lists, self.turns) {
+            (true, true) => None,
+            (true, false) => Some("turns are left out: the older build has none"),
+            (false, _) => {
+                Some("lists, plans with verdict 1 and turns are left out: the older build has none")
+            }
+        }
+    }
 }
 
 /// Whether a plan that can be told apart into its sections has an oracle state of verdict 1.
@@ -25,12 +57,19 @@ mod tests {
     use crate::rng::Rng;
 
     #[test]
-    fn an_engine_without_lists_is_told_by_its_stub() {
-        let stub = Engine {
-            list: |_, _, _| yard::answer(0),
+    fn an_engine_without_lists_or_turns_is_told_by_its_stubs() {
+        let without_turns = Engine {
+            turn: |_, _, _| yard::turn_of(0),
             ..BASELINE
         };
-        assert!(has_lists(BASELINE) && !has_lists(stub));
+        let without_both = Engine {
+            list: |_, _, _| yard::answer(0),
+            ..without_turns
+        };
+        let has = |lists, turns| Has { lists, turns };
+        assert_eq!(Has::of(BASELINE), Has::ALL);
+        assert_eq!(Has::of(without_turns), has(true, false));
+        assert_eq!(Has::of(without_both), has(false, false));
     }
 
     #[test]

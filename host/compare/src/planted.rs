@@ -2,7 +2,9 @@
 #![allow(unsafe_code)]
 
 use std::process::Command;
-use std::{env, ptr};
+use std::{env, ptr, slice};
+
+use yard::Lane;
 
 use crate::checked::Comparer;
 use crate::engines::{Engine, LIBRARY};
@@ -17,6 +19,10 @@ fn read(bytes: &[u8], at: isize) {
     unsafe { ptr::read_volatile(bytes.as_ptr().wrapping_offset(at)) };
 }
 
+fn bytes_of(roster: &[Lane]) -> &[u8] {
+    unsafe { slice::from_raw_parts(roster.as_ptr().cast(), size_of_val(roster)) }
+}
+
 /// Writes a byte's own value over it, where there is one.
 fn rewrite(bytes: &[u8], at: usize) {
     if at < bytes.len() {
@@ -26,7 +32,7 @@ fn rewrite(bytes: &[u8], at: usize) {
 
 /// Each fault as an engine of that name, with the end at which it is seen and what is said of it.
 #[rustfmt::skip]
-fn faults() -> [(Engine, &'static str, &'static str); 12] {
+fn faults() -> [(Engine, &'static str, &'static str); 17] {
     let engine = |name| Engine { name, ..LIBRARY };
     [
         (Engine { check: |p| { read(p, p.len() as isize); yard::check(p) }, ..engine("read past the plan") },
@@ -53,6 +59,16 @@ fn faults() -> [(Engine, &'static str, &'static str); 12] {
             "Front", "read or wrote a byte 1 before the list"),
         (Engine { list: |p, b, l| { rewrite(l, 1); yard::list(p, b, l) }, ..engine("write to the list") },
             "Front", "wrote to byte 1 of the read-only pages of the list"),
+        (Engine { turn: |p, r, b| { read(bytes_of(r), 4 * r.len() as isize); yard::turn(p, r, b) }, ..engine("read past the roster") },
+            "Back", "read or wrote a byte 1 behind the roster"),
+        (Engine { turn: |p, r, b| { read(bytes_of(r), -1); yard::turn(p, r, b) }, ..engine("read before the roster") },
+            "Front", "read or wrote a byte 1 before the roster"),
+        (Engine { turn: |p, r, b| { read(b, b.len() as isize); yard::turn(p, r, b) }, ..engine("read past the buffer") },
+            "Back", "read or wrote a byte 1 behind the buffer"),
+        (Engine { turn: |p, r, b| { read(b, -1); yard::turn(p, r, b) }, ..engine("read before the buffer") },
+            "Front", "read or wrote a byte 1 before the buffer"),
+        (Engine { turn: |p, r, b| { rewrite(p, 7); yard::turn(p, r, b) }, ..engine("write to the plan in a turn") },
+            "Front", "wrote to byte 7 of the read-only pages of the plan"),
     ]
 }
 

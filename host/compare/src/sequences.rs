@@ -1,7 +1,9 @@
 //! Random sequences of calls on random plans, held against the reference and the book.
 
+mod lanes;
 mod lists;
 mod logs;
+mod turns;
 
 use std::ops::Range;
 
@@ -17,10 +19,11 @@ use crate::engines::{Call, Reply};
 use crate::generate::Generated;
 use crate::lent::{LentPlan, Shelf};
 use crate::lists::Listed;
+use crate::older::{self, Has};
 use crate::ranking::Fact;
 use crate::rng::Rng;
 use crate::tally::Tally;
-use crate::{damage, generate, images, older};
+use crate::{damage, generate, images};
 
 /// The marks of an image.
 const MARKS: Range<usize> = 16..24;
@@ -29,8 +32,8 @@ pub struct Session {
     rng: Rng,
     pub tally: Tally,
     comparer: Comparer,
-    /// Whether lists are handed in, and plans may have verdict 1.
-    has_lists: bool,
+    /// What all engines have: lists are handed in, plans have verdict 1 and turns are given only where they do.
+    has: Has,
     plans: Shelf,
     /// An image that another plan reached.
     other: Vec<u8>,
@@ -43,7 +46,7 @@ impl Session {
         Session {
             rng: Rng::new(seed),
             tally: Tally::default(),
-            has_lists: comparer.has_lists(),
+            has: comparer.has(),
             comparer,
             plans: Shelf::default(),
             other: vec![0; IMAGE_BYTES],
@@ -61,12 +64,12 @@ impl Session {
 
     /// What never occurred, and should have.
     pub fn missing(&self) -> Vec<String> {
-        self.tally.missing(self.has_lists)
+        self.tally.missing(self.has)
     }
 
     /// Whether all engines know what a plan may hold.
     fn takes(&self, plan: &[u8]) -> bool {
-        self.has_lists || !older::has_verdict_1(plan)
+        self.has.lists || !older::has_verdict_1(plan)
     }
 
     fn new_plan(&mut self) -> Generated {
@@ -78,7 +81,7 @@ impl Session {
         }
     }
 
-    /// One lawful plan: a sequence of calls with others between, then calls on damaged plans.
+    /// One lawful plan: a sequence of calls with others between, a box of lanes, then calls on damaged plans.
     fn round(&mut self) -> Checked<()> {
         let made = self.new_plan();
         self.tally.plan(&made);
@@ -91,11 +94,18 @@ impl Session {
         let started = self.call(&plan, &image, Call::Start)?;
         image = started.image;
         if started.answer == Answer::Accepted {
+            let started = image.clone();
             image = self.sequence(&made.draft, &plan, image)?;
+            if self.has.turns && self.rng.chance(35) {
+                self.box_of_lanes(&made.draft, &plan, &started)?;
+            }
             self.other.clone_from(&image);
             self.log_of_run(&plan)?;
         }
         self.any_log(&plan)?;
+        if self.has.turns && self.rng.chance(50) {
+            self.any_turn(&made.draft, &plan, &image)?;
+        }
         for _ in 0..4 {
             self.damaged_plan(&made.draft, &image)?;
         }
@@ -117,11 +127,9 @@ impl Session {
             self.hold_against(&mut book, plan, &image, call, &outcome)?;
             image = outcome.image;
             calls += 1;
+            note_moves(&mut moves, call, outcome.answer);
             match (call, outcome.answer) {
-                (Call::Start, Answer::Accepted) => moves.clear(),
-                (_, Answer::Accepted) => offer = outcome.bits,
-                (Call::List(list), Answer::Committed(_)) => moves.extend(list.entries()),
-                (_, Answer::Committed(number)) => moves.push(number),
+                (Call::Offered | Call::Bits, Answer::Accepted) => offer = outcome.bits,
                 (_, Answer::Stalled | Answer::Penned) if self.rng.chance(50) => break,
                 _ => {}
             }
@@ -208,7 +216,7 @@ impl Session {
         };
         let marked = images::marked(&mut self.rng, &state, draft);
         let offer = self.call(plan, &marked, Call::Bits)?.bits;
-        let call = match self.has_lists && self.rng.chance(30) {
+        let call = match self.has.lists && self.rng.chance(30) {
             true => Call::List(self.next_list(plan, &marked)),
             false => self.next_call(draft, plan, &marked, offer),
         };
@@ -232,6 +240,9 @@ impl Session {
         if self.rng.chance(10) {
             self.any_log(&plan)?;
         }
+        if self.has.turns && self.rng.chance(10) {
+            self.any_turn(draft, &plan, image)?;
+        }
         self.plans.take_back(plan);
         Ok(())
     }
@@ -248,7 +259,7 @@ impl Session {
             3..=8 => Call::Offered,
             9..=17 => Call::Bits,
             18..=38 => Call::Settle,
-            39..=53 if self.has_lists => Call::List(self.next_list(plan, image)),
+            39..=53 if self.has.lists => Call::List(self.next_list(plan, image)),
             _ => Call::Try(self.number(draft.interactions.len(), offer)),
         }
     }
@@ -297,6 +308,16 @@ impl Session {
     }
 }
 
+/// Notes what a call on a lane committed; a start begins anew.
+fn note_moves(moves: &mut Vec<usize>, call: Call, answer: Answer) {
+    match (call, answer) {
+        (Call::Start, Answer::Accepted) => moves.clear(),
+        (Call::List(list), Answer::Committed(_)) => moves.extend(list.entries()),
+        (_, Answer::Committed(number)) => moves.push(number),
+        _ => {}
+    }
+}
+
 #[cfg(test)]
 mod tests {
     use super::*;
@@ -313,21 +334,35 @@ mod tests {
         assert_eq!(session.missing(), [""; 0]);
     }
 
+    const WITHOUT_TURNS: Engine = Engine {
+        name: "without turns",
+        turn: |_, _, _| yard::turn_of(0),
+        ..BASELINE
+    };
+
+    fn assert_compared_in_all_else(older: Engine) {
+        let comparer = Comparer::with(2, BASELINE).and_older(older);
+        let mut session = Session::new(2, comparer);
+        assert!(session.compare(40_000).is_ok());
+        assert_eq!(session.missing(), [""; 0]);
+    }
+
+    #[test]
+    fn an_older_build_without_turns_is_compared_in_all_else() {
+        assert_compared_in_all_else(WITHOUT_TURNS);
+    }
+
     /// As an older build that has no lists and refuses verdict 1.
     #[test]
     fn an_older_build_without_lists_is_compared_in_all_else() {
-        let older = Engine {
+        assert_compared_in_all_else(Engine {
             name: "without lists",
             check: |plan| match older::has_verdict_1(plan) {
                 true => panic!("verdict 1"),
                 false => (BASELINE.check)(plan),
             },
             list: |_, _, _| yard::answer(0),
-            ..BASELINE
-        };
-        let comparer = Comparer::with(2, BASELINE).and_older(older);
-        let mut session = Session::new(2, comparer);
-        assert!(session.compare(40_000).is_ok());
-        assert_eq!(session.missing(), [""; 0]);
+            ..WITHOUT_TURNS
+        });
     }
 }

@@ -12,14 +12,17 @@ use crate::generate::Generated;
 use crate::halves::{Half, HALVES};
 use crate::lists::{Listed, LISTED};
 use crate::logs::{Shown, SHOWN};
+use crate::no_turns::{NoTurn, NO_TURNS};
+use crate::older::Has;
 use crate::ranking::{Fact, FACTS};
+use crate::turns::{Turned, TURNED};
 
-const CALLS: [&str; 9] = [
-    "check", "start", "offered", "bits", "try", "settle", "list", "log", "index",
+const CALLS: [&str; 10] = [
+    "check", "start", "offered", "bits", "try", "settle", "list", "turn", "log", "index",
 ];
-/// One past the highest refusal, that of a list.
-const REFUSALS: usize = Refusal::BadList as usize + 1;
-const KINDS: [&str; 7] = [
+/// One past the highest refusal, that of a roster.
+const REFUSALS: usize = Refusal::BadRoster as usize + 1;
+const KINDS: [&str; 8] = [
     "accepted",
     "committed",
     "cancelled",
@@ -27,6 +30,7 @@ const KINDS: [&str; 7] = [
     "penned",
     "refused",
     "wrong",
+    "idle",
 ];
 const SUMS: [&str; 3] = ["add", "subtract", "kind 1"];
 const ENDS: [&str; 2] = ["upper", "lower"];
@@ -54,6 +58,8 @@ pub struct Tally {
     shown: [u64; SHOWN.len()],
     listed: [u64; LISTED.len()],
     halves: [u64; HALVES.len()],
+    turned: [u64; TURNED.len()],
+    no_turns: [u64; NO_TURNS.len()],
     past: Past,
     plans: u64,
     /// Those with a state of verdict 1.
@@ -92,6 +98,14 @@ impl Tally {
         self.halves[half as usize] += 1;
     }
 
+    pub fn turned(&mut self, turned: Turned) {
+        self.turned[turned as usize] += 1;
+    }
+
+    pub fn no_turn(&mut self, no_turn: NoTurn) {
+        self.no_turns[no_turn as usize] += 1;
+    }
+
     /// Counts the results of one call that went past an end.
     pub fn past(&mut self, past: Past) {
         let counts = self.past.as_flattened_mut().iter_mut();
@@ -108,27 +122,41 @@ impl Tally {
         }
     }
 
-    /// Counts one sequence: its calls, which the book was told of, and its moves.
+    /// Counts calls of a sequence, which a book was told of, and its moves.
     pub fn sequence(&mut self, calls: u64, moves: usize) {
         self.book += calls;
         self.most_moves = moves.max(self.most_moves);
     }
 
-    /// The answer kinds, refusals, causes, facts and results past an end that never occurred; those of lists and of verdict 1 where there are lists.
-    pub fn missing(&self, has_lists: bool) -> Vec<String> {
-        let kinds = (0..KINDS.len()).filter(|&kind| self.answers.iter().all(|row| row[kind] == 0));
-        let no_list = |n: &usize| *n != Refusal::BadList as usize;
-        let refusals = (1..REFUSALS).filter(|n| has_lists || no_list(n));
-        let refusals = refusals.filter(|&n| self.refusals[n] == 0);
-        let missing = kinds
-            .map(|kind| KINDS[kind].to_string())
-            .chain(refusals.map(|n| format!("refusal {n}")))
+    /// The answer kinds, refusals, causes, facts and results past an end that never occurred; those of lists, of verdict 1 and of turns where there are any.
+    pub fn missing(&self, has: Has) -> Vec<String> {
+        let of_lists = never(LISTED, &self.listed).chain(never(HALVES, &self.halves));
+        let of_turns = never(TURNED, &self.turned).chain(never(NO_TURNS, &self.no_turns));
+        self.kinds_missing(has)
+            .chain(self.refusals_missing(has))
             .chain(never(CAUSES, &self.causes))
             .chain(never(FACTS, &self.facts))
             .chain(never(SHOWN, &self.shown))
-            .chain(self.never_past());
-        let of_lists = never(LISTED, &self.listed).chain(never(HALVES, &self.halves));
-        missing.chain(of_lists.filter(|_| has_lists)).collect()
+            .chain(self.never_past())
+            .chain(of_lists.filter(|_| has.lists))
+            .chain(of_turns.filter(|_| has.turns))
+            .collect()
+    }
+
+    fn kinds_missing(&self, has: Has) -> impl Iterator<Item = String> + '_ {
+        let kinds = (0..KINDS.len()).filter(move |&n| has.turns || n as u32 != yard::IDLE);
+        let never = kinds.filter(|&kind| self.answers.iter().all(|row| row[kind] == 0));
+        never.map(|kind| KINDS[kind].to_string())
+    }
+
+    fn refusals_missing(&self, has: Has) -> impl Iterator<Item = String> + '_ {
+        let refusals = (1..REFUSALS).filter(move |&n| match n {
+            _ if n == Refusal::BadList as usize => has.lists,
+            _ if n == Refusal::BadRoster as usize => has.turns,
+            _ => true,
+        });
+        let never = refusals.filter(|&n| self.refusals[n] == 0);
+        never.map(|n| format!("refusal {n}"))
     }
 
     /// The ends that no result of an operation went past.
@@ -213,6 +241,8 @@ impl fmt::Display for Tally {
         listed(f, "by ranks and marks", FACTS, &self.facts)?;
         listed(f, "lists", LISTED, &self.listed)?;
         listed(f, "at verdict 1", HALVES, &self.halves)?;
+        listed(f, "turns of a lane", TURNED, &self.turned)?;
+        listed(f, "turns of no lane", NO_TURNS, &self.no_turns)?;
         listed(f, "logs", SHOWN, &self.shown)?;
         write!(f, "\n\nresults past the upper and the lower end")?;
         for (name, [upper, lower]) in SUMS.iter().zip(self.past) {

@@ -13,6 +13,7 @@ yard::engine!(
     "wrapping_try",
     "wrapping_settle",
     "wrapping_list",
+    "wrapping_turn",
     "wrapping_log",
     "wrapping_log_index"
 );
@@ -26,6 +27,7 @@ const WRAPPING: Engine = Engine {
     attempt,
     settle,
     list,
+    turn,
     log,
     log_index,
 };

@@ -15,6 +15,8 @@ pub enum Refusal {
     AddedOracle = 20,
     Code = 10,
     ImageLength = 11,
+    /// In the place of 11.
+    BadRoster = 23,
     OtherPlan = 12,
     State = 13,
     FalseMark = 14,
@@ -49,6 +51,8 @@ pub enum Answer {
     Penned,
     Refused(Refusal),
     Wrong(Cause),
+    /// A turn, where all lanes are held.
+    Idle,
 }
 
 impl Answer {
@@ -61,6 +65,7 @@ impl Answer {
             Answer::Penned => 4,
             Answer::Refused(_) => 5,
             Answer::Wrong(_) => 6,
+            Answer::Idle => 7,
         }
     }
 
@@ -69,7 +74,7 @@ impl Answer {
             Answer::Committed(number) | Answer::Cancelled(number) => number as u32,
             Answer::Refused(refusal) => refusal as u32,
             Answer::Wrong(cause) => cause as u32,
-            Answer::Accepted | Answer::Stalled | Answer::Penned => 0,
+            Answer::Accepted | Answer::Stalled | Answer::Penned | Answer::Idle => 0,
         }
     }
 }

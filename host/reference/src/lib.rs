@@ -11,4 +11,5 @@ pub mod lane;
 pub mod list;
 pub mod log;
 pub mod plan;
+pub mod roster;
 pub mod sums;

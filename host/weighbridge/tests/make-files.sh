@@ -196,6 +196,21 @@ image tared.image 24 01 , 40 00 , 56 28 23
 image old-mark.image 16 02 , 56 ff ff ff 7f
 image old-unmarked.image 56 ff ff ff 7f
 
+# Lanes that have turns, for each script its own: they are saved where they were read. The sample lane at its start, tared and with a mark; among sound
+# ones three damaged ones; and nine alike.
+lanes() {
+  local script=$1 n=0 from
+  shift
+  for from; do cp "$from.image" "$script-$n.image"; n=$((n + 1)); done
+}
+lanes round start tared marked
+lanes held start start start
+lanes damaged start 12-letters 13-location 14-safe-move tared
+lanes nine start start start start start start start start start
+lanes kept start tared
+lanes waits start start
+lanes full start start
+
 # Logs of the sample lane, 2 bytes an entry.
 log() {
   local to=$1 bytes=""

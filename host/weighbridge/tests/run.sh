@@ -31,7 +31,7 @@ for hex in "$tests"/*.hex; do
   saved=$((saved + 1))
 done
 
-for number in {1..22}; do
+for number in {1..23}; do
   grep -q "^refused $number: " ./*.got || fail "no script is refused with $number"
 done
 
@@ -56,5 +56,37 @@ move 2 is done
 the moves from the start on are not known: the lane was loaded, the plan changed, or there were too many
 END
 
-echo "$scripts scripts, $saved saved files, 3 calls: $failed failed"
+# A held lane's wait stops at 65535, and it has the next turn once it is free.
+{ printf '%s\n' 'lane waits-0.image' 'lane waits-1.image' 'hold 0'; yes turn | head -n 65534; printf '%s\n' roster turn roster turn roster 'free 0' turn roster; } |
+  "$program" sample.plan | tail -n 12 > waits.got
+diff - waits.got <<'END' || fail "the longest wait"
+lane 0: held, waited 65534, waits-0.image
+lane 1: free, waited 0, waits-1.image
+lane 1: move 2 is done
+lane 0: held, waited 65535, waits-0.image
+lane 1: free, waited 0, waits-1.image
+lane 1: move 1 is done
+lane 0: held, waited 65535, waits-0.image
+lane 1: free, waited 0, waits-1.image
+lane 0 is free
+lane 0: move 1 is done
+lane 0: free, waited 0, waits-0.image
+lane 1: free, waited 1, waits-1.image
+END
+
+# A lane that cannot be saved stays in the box.
+printf '%s\n' 'lane full-0.image' 'lane full-1.image' turn store turn leave turn roster |
+  (ulimit -f 0 && trap '' XFSZ && "$program" sample.plan) | tail -n 8 > full.got
+diff - full.got <<'END' || fail "lanes that cannot be saved"
+lane 0: move 1 is done
+cannot write full-0.image: File too large
+lane 1 is as it was
+lane 1: move 1 is done
+cannot write full-1.image: File too large
+lane 0: move 0 is done
+lane 0: free, waited 0, full-0.image
+lane 1: free, waited 1, full-1.image
+END
+
+echo "$scripts scripts, $saved saved files, 5 calls: $failed failed"
 [ $failed -eq 0 ]

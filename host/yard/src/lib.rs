@@ -1,5 +1,9 @@
 //! The engine of libyard.a behind safe calls: include/yard.h in Rust's words.
 
+mod turn;
+
+pub use turn::{turn_of, Lane, Turn};
+
 /// One number of the engine taken apart: kind times 65536 plus number.
 #[derive(Clone, Copy, Debug, PartialEq, Eq)]
 pub struct Answer {
@@ -14,10 +18,13 @@ pub const STALLED: u32 = 3;
 pub const PENNED: u32 = 4;
 pub const REFUSED: u32 = 5;
 pub const WRONG: u32 = 6;
+pub const IDLE: u32 = 7;
 
 pub const IMAGE_BYTES: usize = 312;
 /// The most moves of a list.
 pub const LIST_MOVES: usize = 8;
+/// The most lanes of a roster.
+pub const ROSTER_LANES: usize = 8;
 
 pub fn answer(packed: u32) -> Answer {
     Answer {
@@ -27,11 +34,11 @@ pub fn answer(packed: u32) -> Answer {
 }
 
 /// The calls of an engine with the interface of yard.h, by the names of its C functions. A slice's pointer is never null, is valid for its length, and
-/// `&mut` keeps the image apart from the plan and a list: all that yard.h asks of a caller.
+/// `&mut` keeps the image apart from the plan and a list, and roster and images apart from each other and the plan: all that yard.h asks of a caller.
 #[macro_export]
 macro_rules! engine {
     ($check:literal, $start:literal, $offered:literal, $bits:literal, $try:literal, $settle:literal, $list:literal,
-     $log:literal, $log_index:literal) => {
+     $turn:literal, $log:literal, $log_index:literal) => {
         mod raw {
             extern "C" {
                 #[link_name = $check]
@@ -80,6 +87,15 @@ macro_rules! engine {
                     image_len: usize,
                     moves: *const u8,
                     moves_len: usize,
+                ) -> u32;
+                #[link_name = $turn]
+                pub fn turn(
+                    plan: *const u8,
+                    plan_len: usize,
+                    roster: *mut $crate::Lane,
+                    lanes: usize,
+                    images: *mut u8,
+                    images_len: usize,
                 ) -> u32;
                 #[link_name = $log]
                 pub fn log(plan: *const u8, plan_len: usize, log: *const u8, log_len: usize)
@@ -149,6 +165,21 @@ macro_rules! engine {
             })
         }
 
+        /// Gives a turn to one of the lanes, whose images lie end to end.
+        pub fn turn(plan: &[u8], roster: &mut [$crate::Lane], images: &mut [u8]) -> $crate::Turn {
+            let (plan_len, lanes, images_len) = (plan.len(), roster.len(), images.len());
+            $crate::turn_of(unsafe {
+                raw::turn(
+                    plan.as_ptr(),
+                    plan_len,
+                    roster.as_mut_ptr(),
+                    lanes,
+                    images.as_mut_ptr(),
+                    images_len,
+                )
+            })
+        }
+
         pub fn log(plan: &[u8], log: &[u8]) -> $crate::Answer {
             $crate::answer(unsafe { raw::log(plan.as_ptr(), plan.len(), log.as_ptr(), log.len()) })
         }
@@ -168,6 +199,7 @@ engine!(
     "yard_try",
     "yard_settle",
     "yard_list",
+    "yard_turn",
     "yard_log",
     "yard_log_index"
 );

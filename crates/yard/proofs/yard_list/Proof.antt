@@ -14,7 +14,7 @@ same-length : tie.Need-same-length
 same-length c = search needs
 
 returns : tie.Need-returns
-returns c = let s = c .before .before .before in (c .packed .ensures ∙ ap packed (s .hand-in .ensures .0), s .hand-in .ensures .1)
+returns c = let s = c .before .before .before in (c .packed .ensures .0 ∙ ap packed (s .hand-in .ensures .0), s .hand-in .ensures .1)
 
 pub yard-list-spec : {M : Type 1} → statement M
 yard-list-spec = tie.close (tie.spec hand-in-requires packed-requires same-length returns)

@@ -12,7 +12,7 @@ packed-requires c κs = search needs
 
 returns : tie.Need-returns
 unfolding packed
-returns c = c .packed .ensures ∙ ap packed (c .before .check-log .ensures)
+returns c = c .packed .ensures .0 ∙ ap packed (c .before .check-log .ensures)
 
 pub yard-log-spec : {M : Type 1} → statement M
 yard-log-spec = tie.close (tie.spec check-log-requires packed-requires returns)

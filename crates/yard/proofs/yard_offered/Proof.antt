@@ -10,7 +10,7 @@ packed-requires : tie.Need-packed-requires
 packed-requires c κs = search needs
 
 returns : tie.Need-returns
-returns c = c .packed .ensures ∙ c .before .offerable .ensures
+returns c = c .packed .ensures .0 ∙ c .before .offerable .ensures
 
 pub yard-offered-spec : {M : Type 1} → statement M
 yard-offered-spec = tie.close (tie.spec offerable-requires packed-requires returns)

@@ -14,7 +14,7 @@ same-length : tie.Need-same-length
 same-length c = search needs
 
 returns : tie.Need-returns
-returns c = let s = c .before .before .before in (c .packed .ensures ∙ ap packed (s .settle .ensures .0), s .settle .ensures .1)
+returns c = let s = c .before .before .before in (c .packed .ensures .0 ∙ ap packed (s .settle .ensures .0), s .settle .ensures .1)
 
 pub yard-settle-spec : {M : Type 1} → statement M
 yard-settle-spec = tie.close (tie.spec settle-requires packed-requires same-length returns)

@@ -14,7 +14,7 @@ same-length : tie.Need-same-length
 same-length c = search needs
 
 returns : tie.Need-returns
-returns c = let s = c .before .before .before in (c .packed .ensures ∙ ap packed (s .start .ensures .0), s .start .ensures .1)
+returns c = let s = c .before .before .before in (c .packed .ensures .0 ∙ ap packed (s .start .ensures .0), s .start .ensures .1)
 
 pub yard-start-spec : {M : Type 1} → statement M
 yard-start-spec = tie.close (tie.spec start-requires packed-requires same-length returns)

@@ -14,7 +14,7 @@ same-length : tie.Need-same-length
 same-length c = search needs
 
 returns : tie.Need-returns
-returns c = let s = c .before .before .before in (c .packed .ensures ∙ ap packed (s .try-move .ensures .0), s .try-move .ensures .1)
+returns c = let s = c .before .before .before in (c .packed .ensures .0 ∙ ap packed (s .try-move .ensures .0), s .try-move .ensures .1)
 
 pub yard-try-spec : {M : Type 1} → statement M
 yard-try-spec = tie.close (tie.spec try-move-requires packed-requires same-length returns)

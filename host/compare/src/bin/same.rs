@@ -1,5 +1,6 @@
-//! Compares every call of libyard.a with that of an older build as well, whose calls are named old_: answers and images must be the same. Where the older
-//! one has no lists, none is handed in, and plans with a state of verdict 1, which it refuses, are passed over.
+//! Compares every call of libyard.a with that of an older build as well, whose calls are named old_: answers, images and rosters must be the same. Where
+//! the older one has no lists, none is handed in, and plans with a state of verdict 1, which it refuses, are passed over; where it has no turns, none is
+//! given.
 
 use std::process::ExitCode;
 
@@ -16,6 +17,7 @@ mod old {
         "old_try",
         "old_settle",
         "old_list",
+        "old_turn",
         "old_log",
         "old_log_index"
     );
@@ -30,6 +32,7 @@ const OLD: Engine = Engine {
     attempt: old::attempt,
     settle: old::settle,
     list: old::list,
+    turn: old::turn,
     log: old::log,
     log_index: old::log_index,
 };

@@ -5,6 +5,7 @@ use reference::calls;
 use reference::draft::{Component, Draft, Interaction, OracleState, Span, Transition, Variable};
 use reference::image::IMAGE_BYTES;
 use reference::log;
+use reference::roster::{self, Record};
 
 pub type Image = [u8; IMAGE_BYTES];
 
@@ -154,7 +155,14 @@ pub fn value(image: &Image, n: usize) -> i32 {
     i32::from_le_bytes(image[56 + 4 * n..][..4].try_into().unwrap())
 }
 
-/// The image and start calls on a refused plan change no byte; a log or a list, odd or not, makes no difference.
+/// A box of one lane that waited three turns.
+const ONE_LANE: [Record; 1] = [Record {
+    number: 0,
+    held: 0,
+    wait: 3,
+}];
+
+/// The image and start calls on a refused plan change no byte; a log or a list, odd or not, makes no difference, nor does a roster, lawful or not.
 pub fn assert_plan_refused(plan: &[u8], refusal: Refusal) {
     let mut image = started(&sample());
     let before = image;
@@ -168,10 +176,15 @@ pub fn assert_plan_refused(plan: &[u8], refusal: Refusal) {
         assert_eq!(log::check(plan, moves), (refused, 0));
         assert_eq!(calls::list(plan, &mut image, moves), refused);
     }
-    assert_eq!(image, before);
+    let mut roster = ONE_LANE;
+    for lanes in [1, 0] {
+        let answer = roster::turn(plan, &mut roster[..lanes], &mut image);
+        assert_eq!(answer, (None, refused));
+    }
+    assert_eq!((image, roster), (before, ONE_LANE));
 }
 
-/// The sample's calls on a refused image change no byte.
+/// The sample's calls on a refused image change no byte; a turn is used up by it, unless its length is wrong.
 pub fn assert_image_refused(image: &[u8], refusal: Refusal) {
     let plan = sample().bytes();
     let mut after = image.to_vec();
@@ -182,5 +195,11 @@ pub fn assert_image_refused(image: &[u8], refusal: Refusal) {
     for moves in [&[][..], &[1, 0], &[1]] {
         assert_eq!(calls::list(&plan, &mut after, moves), refused);
     }
-    assert_eq!(after, image);
+    let mut roster = ONE_LANE;
+    let (answer, wait) = match refusal {
+        Refusal::ImageLength => ((None, Answer::Refused(Refusal::BadRoster)), 3),
+        _ => ((Some(0), refused), 0),
+    };
+    assert_eq!(roster::turn(&plan, &mut roster, &mut after), answer);
+    assert_eq!((after.as_slice(), roster[0].wait), (image, wait));
 }

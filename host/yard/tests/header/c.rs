@@ -1,4 +1,4 @@
-//! What the header declares: enumerations and prototypes.
+//! What the header declares: enumerations, structures and prototypes.
 
 use crate::tokens::{tokens, without_blocks, without_lines};
 use crate::Named;
@@ -9,10 +9,12 @@ pub struct Header {
     pub functions: Named<String>,
     /// The enumerations by name; one without a name has "".
     pub enums: Named<Named<u32>>,
+    /// The structures by name: their fields in order, with their types.
+    pub structs: Named<Named<String>>,
 }
 
 impl Header {
-    /// Directives are passed over; anything else that is no enumeration and no prototype cannot be read.
+    /// Directives are passed over; anything else that is no enumeration, structure or prototype cannot be read.
     pub fn read(text: &str) -> Result<Header, String> {
         let all = tokens(&without_lines(&without_blocks(text, "/*", "*/")?, "#"));
         let mut rest = match &all[..] {
@@ -25,8 +27,7 @@ impl Header {
         };
         let mut header = Header::default();
         while !rest.is_empty() {
-            let end = rest.iter().position(|word| word == ";");
-            let end = end.ok_or("the header's last declaration has no end")?;
+            let end = declared(rest).ok_or("the header's last declaration has no end")?;
             header.declaration(&rest[..end])?;
             rest = &rest[end + 1..];
         }
@@ -35,11 +36,14 @@ impl Header {
 
     fn declaration(&mut self, words: &[String]) -> Result<(), String> {
         let unread = || format!("cannot be read in the header: {}", words.join(" "));
-        if words.first().is_some_and(|word| word == "enum") {
-            self.enums
-                .push(enumeration(&words[1..]).ok_or_else(unread)?);
-        } else {
-            self.functions.push(prototype(words).ok_or_else(unread)?);
+        match words.first().map_or("", String::as_str) {
+            "enum" => self
+                .enums
+                .push(enumeration(&words[1..]).ok_or_else(unread)?),
+            "struct" => self
+                .structs
+                .push(structure(&words[1..]).ok_or_else(unread)?),
+            _ => self.functions.push(prototype(words).ok_or_else(unread)?),
         }
         Ok(())
     }
@@ -48,6 +52,15 @@ impl Header {
         let found = self.enums.iter().find(|list| list.0 == name);
         found.map_or(&[], |list| &list.1)
     }
+}
+
+/// Where the first declaration ends: at a semicolon outside braces.
+fn declared(words: &[String]) -> Option<usize> {
+    let mut depth = 0;
+    words.iter().position(|word| {
+        depth += i32::from(word == "{") - i32::from(word == "}");
+        word == ";" && depth == 0
+    })
 }
 
 fn enumeration(words: &[String]) -> Option<(String, Named<u32>)> {
@@ -62,6 +75,19 @@ fn enumeration(words: &[String]) -> Option<(String, Named<u32>)> {
     };
     let items: Option<Named<u32>> = inner.split(|word| word == ",").map(item).collect();
     Some((name.to_string(), items?))
+}
+
+fn structure(words: &[String]) -> Option<(String, Named<String>)> {
+    let [name, open, inner @ .., last, close] = words else {
+        return None;
+    };
+    let field = |words: &[String]| match words {
+        [kind, name] => Some((name.clone(), kind.clone())),
+        _ => None,
+    };
+    let fields: Option<Named<String>> = inner.split(|word| word == ";").map(field).collect();
+    let known = [open, last, close] == ["{", ";", "}"];
+    known.then_some((name.clone(), fields?))
 }
 
 fn prototype(words: &[String]) -> Option<(String, String)> {

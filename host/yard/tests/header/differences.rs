@@ -2,8 +2,10 @@
 
 use std::fmt::Display;
 
+use crate::Named;
+
 /// Each refusal of the header, with words that its rule alone has; 18 means something else for an entry of a log.
-const REFUSALS: [(&str, &str); 23] = [
+const REFUSALS: [(&str, &str); 24] = [
     ("YARD_BAD_HEAD", "headOk"),
     ("YARD_BAD_COUNT", "countsOk"),
     ("YARD_BAD_LAYOUT", "layoutOk"),
@@ -16,6 +18,7 @@ const REFUSALS: [(&str, &str); 23] = [
     ("YARD_BAD_ADDED", "tableOk p (suc k)"),
     ("YARD_BAD_CODE", "codeOk"),
     ("YARD_BAD_LENGTH", "imageLength"),
+    ("YARD_BAD_ROSTER", "rosterOk"),
     ("YARD_OTHER_PLAN", "headMatches"),
     ("YARD_BAD_STATE", "configurationOk"),
     ("YARD_FALSE_MARK", "marksOk"),
@@ -29,21 +32,23 @@ const REFUSALS: [(&str, &str); 23] = [
     ("YARD_MARKED", "bit (marksOf b) i"),
 ];
 
-/// The header's directives: the macros take apart what `PACKED` puts together.
-const DIRECTIVES: [&str; 11] = [
+/// The header's directives: the macros take apart what `PACKED` and, of a turn, `PACKED_TURN` put together.
+const DIRECTIVES: [&str; 12] = [
     "#ifndef YARD_H",
     "#define YARD_H",
     "#include <stddef.h>",
     "#include <stdint.h>",
     "#ifdef __cplusplus",
     "#endif",
-    "#define YARD_KIND(answer) ((uint32_t)(answer) >> 16)",
+    "#define YARD_LANE(answer) ((uint32_t)(answer) >> 24)",
+    "#define YARD_KIND(answer) (((uint32_t)(answer) >> 16) & 0xffu)",
     "#define YARD_NUMBER(answer) ((uint32_t)(answer) & 0xffffu)",
     "#ifdef __cplusplus",
     "#endif",
     "#endif",
 ];
 const PACKED: &str = "\npacked a = a .kind * 65536 + a .number\n";
+const PACKED_TURN: &str = "\npackedTurn (served i a) = i * 16777216 + packed a\n";
 
 /// Names with what they stand for, held against what is wanted: all of them, each once, and no others.
 pub fn named<T: Display + PartialEq>(
@@ -70,10 +75,29 @@ pub fn named<T: Display + PartialEq>(
     found
 }
 
+/// Structures, held against the source's records: the same fields in the same order.
+pub fn structures(
+    header: &[(String, Named<String>)],
+    wanted: &[(String, Named<String>)],
+) -> Vec<String> {
+    if !header.iter().map(|s| &s.0).eq(wanted.iter().map(|s| &s.0)) {
+        return vec!["the header's structures are other ones".into()];
+    }
+    let mut found = Vec::new();
+    for ((name, has), (_, want)) in header.iter().zip(wanted) {
+        let fields = named(has, want);
+        if fields.is_empty() && has != want {
+            found.push(format!("the fields of {name} stand in another order"));
+        }
+        found.extend(fields);
+    }
+    found
+}
+
 type Rules = [(u32, String)];
 
-/// The refusals against the rules: each rule has one name and its own number, in the order of the rules. The other lists, of a log's rules and of a
-/// list's, may name the same ones again, each in an order of its own.
+/// The refusals against the rules: each rule has one name and its own number, in the order of the rules. The other lists, of a log's rules, of a
+/// list's and of a turn's, may name the same ones again, each in an order of its own.
 pub fn refusals(
     header: &[(String, u32)],
     rules: &Rules,
@@ -95,8 +119,11 @@ pub fn refusals(
             .filter(|number| twice(number))
             .map(|number| format!("{number} is the number of two rules")),
     );
-    for list in [rules].into_iter().chain(others.iter().map(Vec::as_slice)) {
-        found.extend(turned(header, list));
+    let lists = [rules].into_iter().chain(others.iter().map(Vec::as_slice));
+    for pair in lists.flat_map(|list| turned(header, list)) {
+        if !found.contains(&pair) {
+            found.push(pair);
+        }
     }
     found.extend(named(header, &wanted));
     found
@@ -115,8 +142,8 @@ fn turned(header: &[(String, u32)], list: &Rules) -> Vec<String> {
         .collect()
 }
 
-/// Both texts are fixed, so that neither changes without the other.
-pub fn packing(header: &str, calls: &str) -> Vec<String> {
+/// The texts are fixed, so that none changes without the others.
+pub fn packing(header: &str, calls: &str, turn: &str) -> Vec<String> {
     let mut found = Vec::new();
     let directives = header
         .lines()
@@ -125,8 +152,10 @@ pub fn packing(header: &str, calls: &str) -> Vec<String> {
         let other = directives.clone().find(|line| !DIRECTIVES.contains(line));
         found.push(format!("the header's directives are other ones: {other:?}"));
     }
-    if !calls.contains(PACKED) {
-        found.push(format!("not found: {}", PACKED.trim()));
+    for (text, packed) in [(calls, PACKED), (turn, PACKED_TURN)] {
+        if !text.contains(packed) {
+            found.push(format!("not found: {}", packed.trim()));
+        }
     }
     found
 }

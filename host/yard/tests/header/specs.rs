@@ -22,6 +22,17 @@ pub fn kinds(calls: &str) -> Named<u32> {
         .collect()
 }
 
+/// The kind of a turn that is no lane's, under the header's name.
+pub fn idle(turn: &str) -> Result<Named<u32>, String> {
+    let kind = |line: &str| {
+        let right = line.strip_prefix("packedTurn idle = ")?;
+        right.strip_suffix(" * 65536")?.parse().ok()
+    };
+    let found = turn.lines().find_map(kind);
+    let found = found.ok_or("the kind of idle cannot be read in the definitions")?;
+    Ok(vec![("YARD_IDLE".into(), found)])
+}
+
 /// Each rule of a text: its number and what it wants.
 pub fn rules(text: &str) -> Vec<(u32, String)> {
     let rule = |part: &str| Some((leading_number(part)?, in_parentheses(part)));
@@ -50,11 +61,12 @@ fn leading_number(text: &str) -> Option<u32> {
     text[..end.unwrap_or(text.len())].parse().ok()
 }
 
-/// The length of an image and the most moves of a list, under the header's names.
-pub fn limits(image: &str, load: &str) -> Result<Named<u32>, String> {
+/// The length of an image, the most moves of a list and the most lanes of a roster, under the header's names.
+pub fn limits(image: &str, load: &str, roster: &str) -> Result<Named<u32>, String> {
     Ok(vec![
         ("YARD_IMAGE_BYTES".into(), defined(image, "imageLength")?),
         ("YARD_LIST_MOVES".into(), defined(load, "maxMoves")?),
+        ("YARD_ROSTER_LANES".into(), defined(roster, "maxLanes")?),
     ])
 }
 

@@ -2,6 +2,7 @@ use Rattle.engine.specs.declared.answer.Answer.{Answer}
 use Rattle.semantics.specs.Calls.{packed}
 use Rattle.engine.specs.Answers.{answerOf}
 use mathlib.Core.Path.{sym, ap}
+use native.Mathlib.Omega.{arith}
 use borrow.Author.Needs.{needs}
 use Rattle.engine.proofs.answer.packed.Statement.{statement}
 use Rattle.engine.proofs.answer.packed.Tie as tie
@@ -53,31 +54,31 @@ add-result-4 c = search needs
 
 returns : tie.Need-returns
 unfolding packed answerOf
-returns c = sym (ap (λ (x : Answer). packed (answerOf x)) (c .enum-told .given .1))
+returns c = (sym (ap (λ (x : Answer). packed (answerOf x)) (c .enum-told .given .1)), omega arith)
 
 returns-2 : tie.Need-returns-2
 unfolding packed answerOf
-returns-2 c = sym (ap (λ (x : Answer). packed (answerOf x)) (c .before .a .given .1))
+returns-2 c = (sym (ap (λ (x : Answer). packed (answerOf x)) (c .before .a .given .1)), omega arith)
 
 returns-3 : tie.Need-returns-3
 unfolding packed answerOf
-returns-3 c = sym (ap (λ (x : Answer). packed (answerOf x)) (c .before .a2 .given .1))
+returns-3 c = (sym (ap (λ (x : Answer). packed (answerOf x)) (c .before .a2 .given .1)), omega arith)
 
 returns-4 : tie.Need-returns-4
 unfolding packed answerOf
-returns-4 c = sym (ap (λ (x : Answer). packed (answerOf x)) (c .enum-told2 .given .1))
+returns-4 c = (sym (ap (λ (x : Answer). packed (answerOf x)) (c .enum-told2 .given .1)), omega arith)
 
 returns-5 : tie.Need-returns-5
 unfolding packed answerOf
-returns-5 c = sym (ap (λ (x : Answer). packed (answerOf x)) (c .enum-told3 .given .1))
+returns-5 c = (sym (ap (λ (x : Answer). packed (answerOf x)) (c .enum-told3 .given .1)), omega arith)
 
 returns-6 : tie.Need-returns-6
 unfolding packed answerOf
-returns-6 c = sym (ap (λ (x : Answer). packed (answerOf x)) (c .before .a3 .given .1))
+returns-6 c = (sym (ap (λ (x : Answer). packed (answerOf x)) (c .before .a3 .given .1)), omega arith)
 
 returns-7 : tie.Need-returns-7
 unfolding packed answerOf
-returns-7 c = sym (ap (λ (x : Answer). packed (answerOf x)) (c .before .a4 .given .1))
+returns-7 c = (sym (ap (λ (x : Answer). packed (answerOf x)) (c .before .a4 .given .1)), omega arith)
 
 pub packed-spec : {M : Type 1} → statement M
 packed-spec =

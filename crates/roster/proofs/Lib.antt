@@ -1,0 +1,9 @@
+pub mod Choice
+pub mod Dispatch
+pub mod EachLane
+pub mod Fairness
+pub mod OtherLanes
+pub mod ServeLaws
+pub mod Tight
+pub mod TurnExactly
+pub mod TurnNumbers
