@@ -1,268 +1,249 @@
-// Runs the calls on an image: for each case a line with the case and what the call answered.
-use crate::Buffer;
-use crate::Call;
-use crate::Image;
-use crate::afresh;
-use crate::bits;
-use crate::lay;
-use crate::line;
-use crate::poke;
-use crate::put;
-use crate::put_words;
-use crate::sized;
-use crate::sized_bits;
-use crate::spoilt;
+// The calls, the steps on images, and what is looked at after calls.
+use crate::BEFORE;
+use crate::MOVES;
+use crate::Memory;
+use crate::Numbers;
+use crate::ROSTER;
+use crate::State;
+use crate::memory::NOWHERE;
+use crate::memory::copy;
+use crate::memory::write;
+use crate::state;
+use crate::turns::lanes_of;
+use crate::turns::put_lanes;
+use crate::turns::set_lane;
+use crate::turns::set_lanes;
+use crate::turns::take_turn;
+use layout::image::LENGTH;
+use layout::image::MARKS;
+use layout::image::value_at;
+use words::bytes::u32_at;
+use words::bytes::u64_at;
+use words::bytes::wide;
 
-// The sample lane, but its transitions are t as lay makes them. Gives its length.
-fn lane(buf: &mut Buffer, t: u16) -> usize {
-    let len = lay(buf, 1, 1, t, 3, 1, 2, 10);
-    put(buf, 48, b"\x03\0\x03");
-    let at = 60 + 12 * t as usize;
-    poke(buf, at, 1);
-    poke(buf, at + 48, 2);
-    put(buf, at + 96, b"\x05\0\x05\0\x02\0\x01\0\x01\x01");
-    put_words(
-        buf,
-        at + 106,
-        &[
-            0x0002,
-            0x1328,
-            0x3000,
-            0x0000,
-            0x3000,
-            0x4002,
-            0x2000,
-            0x0000,
-            0x6002,
-            0x6004,
-        ],
-    );
-    len
+// What a call on the image answers.
+fn on_image(word: usize, plan: &[u8], image: &mut [u8], n: u32) -> u32 {
+    match word {
+        17 => yard::yard_start(plan, image),
+        18 => yard::yard_offered(plan, image),
+        19 => yard::yard_try(plan, image, n),
+        _ => yard::yard_settle(plan, image),
+    }
 }
 
-// The sample lane, of 234 bytes.
-fn sample(buf: &mut Buffer) -> usize {
-    let len = lane(buf, 4);
-    put(buf, 60, b"\0\0\x01\x02");
-    put(buf, 72, b"\0\0\0\x01\0\0\0\0\0\0\x03\0");
-    put(buf, 84, b"\0\x01\x01\x02");
-    put(buf, 96, b"\0\x02\x02\0\0\0\0\0\x03\0\x02\0");
-    len
+// What the other calls answer.
+fn on_moves(word: usize, plan: &[u8], image: &mut [u8], moves: &[u8]) -> usize {
+    match word {
+        16 => yard::yard_check(plan) as usize,
+        21 => yard::yard_list(plan, image, moves) as usize,
+        22 => yard::yard_log(plan, moves) as usize,
+        24 => yard::yard_offered_bits(plan, image) as usize,
+        _ => yard::yard_log_index(plan, moves) as usize,
+    }
 }
 
-// The sample lane with interaction 1 below 0.
-fn ranked(buf: &mut Buffer) -> usize {
-    let len = sample(buf);
-    poke(buf, 188, 1);
-    len
+// What a call gives, with the first size bytes of the images.
+fn called(word: usize, plan: &[u8], images: &mut [u8], size: usize, moves: &[u8], n: u32) -> usize {
+    if size > images.len() {
+        return 0;
+    }
+    match word {
+        17..=20 => on_image(word, plan, &mut images[..size], n) as usize,
+        _ => on_moves(word, plan, &mut images[..size], moves),
+    }
 }
 
-// A plan of 64 interactions, each of which ends bad.
-fn many(buf: &mut Buffer) -> usize {
-    let len = lay(buf, 1, 0, 1, 64, 1, 2, 1);
-    put(buf, 2116, b"\x02\0\x01\0\x01\x01\x01\x40");
-    len
+// How many bytes of the images are lent: 312 a lane, or what a step said.
+fn lent_size(said: usize, lanes: usize) -> usize {
+    if said < NOWHERE {
+        return said;
+    }
+    if lanes > 9 {
+        return 0;
+    }
+    lanes * LENGTH
 }
 
-// Start and offered, and starts in memory of another length: refusal 11.
-fn starts(buf: &mut Buffer, image: &mut Image) {
-    let len = sample(buf);
-    line(b"start", Call::Start, buf, len, image);
-    line(b"offered at start", Call::Offered, buf, len, image);
-    bits(b"offered bits at start", buf, len, image);
-    sized(
-        b"start, image of 311 bytes",
-        Call::Start,
-        buf,
-        len,
-        image,
-        311,
-    );
-    sized(
-        b"start, image of 313 bytes",
-        Call::Start,
-        buf,
-        len,
-        image,
-        313,
-    );
+// A part of memory; nothing where it has no such part.
+fn part<'a>(mem: &'a [u8], from: usize, to: usize) -> &'a [u8] {
+    if to > mem.len() {
+        return &mem[..0];
+    }
+    if from > to {
+        return &mem[..0];
+    }
+    &mem[from..to]
 }
 
-// The other calls on images of another length: refusal 11.
-fn lengths(buf: &mut Buffer, image: &mut Image) {
-    let len = sample(buf);
-    sized(
-        b"offered, image of 313 bytes",
-        Call::Offered,
-        buf,
-        len,
-        image,
-        313,
-    );
-    sized_bits(b"offered bits, image of 313 bytes", buf, len, image, 313);
-    sized(
-        b"try 1, image of 311 bytes",
-        Call::Try(1),
-        buf,
-        len,
-        image,
-        311,
-    );
-    sized(
-        b"settle, image of 313 bytes",
-        Call::Settle,
-        buf,
-        len,
-        image,
-        313,
-    );
+// A call with what is lent. What was before it is kept behind the roster.
+fn call(word: usize, n: usize, lent: &Memory, images: &mut Memory, s: &State) -> usize {
+    copy(images, 0, BEFORE, BEFORE);
+    let size = lent_size(s[state::SIZE], 1);
+    let plan = part(lent, 0, s[state::PLAN]);
+    let moves = part(lent, MOVES, s[state::MOVES_END]);
+    called(word, plan, images, size, moves, (n % NOWHERE) as u32)
 }
 
-// Images that do not match form 1 and the plan: refusal 12.
-fn forms(buf: &mut Buffer, image: &mut Image) {
-    let len = sample(buf);
-    spoilt(b"wrong letters in the image", buf, len, image, 0, b'B');
-    spoilt(b"form 2", buf, len, image, 4, 2);
-    spoilt(b"image of another count", buf, len, image, 5, 2);
-    spoilt(b"image of another plan number", buf, len, image, 12, 8);
+// starts: starts the first image and makes the others like it.
+fn start_all(lent: &Memory, images: &mut Memory, s: &State) -> usize {
+    let answer = call(17, 0, lent, images, s);
+    copy(images, 0, LENGTH, ROSTER - LENGTH);
+    answer
 }
 
-// States that the plan does not have: refusal 13.
-fn states(buf: &mut Buffer, image: &mut Image) {
-    let len = sample(buf);
-    spoilt(b"oracle state not below S", buf, len, image, 8, 2);
-    spoilt(b"oracle state bad", buf, len, image, 8, 1);
-    spoilt(b"byte 9 of the image not zero", buf, len, image, 9, 1);
-    spoilt(b"byte 11 of the image not zero", buf, len, image, 11, 1);
-    spoilt(b"location out of range", buf, len, image, 24, 3);
-    spoilt(b"last port out of range", buf, len, image, 40, 3);
-    spoilt(b"unused location filled", buf, len, image, 25, 1);
-    spoilt(b"unused last port filled", buf, len, image, 41, 0);
-    spoilt(b"unused value filled", buf, len, image, 60, 1);
+// turn: a turn of the roster.
+fn turn(lent: &Memory, images: &mut Memory, s: &State) -> usize {
+    copy(images, 0, BEFORE, BEFORE);
+    let count = s[state::COUNT];
+    let size = lent_size(s[state::SIZE], count);
+    let before = lanes_of(images);
+    let outcome = take_turn(part(lent, 0, s[state::PLAN]), before, count, images, size);
+    let after = outcome.lanes;
+    put_lanes(images, after);
+    outcome.answer as usize
 }
 
-// False marks: refusal 14.
-fn marks(buf: &mut Buffer, image: &mut Image) {
-    let len = sample(buf);
-    spoilt(b"mark at I", buf, len, image, 16, 8);
-    spoilt(
-        b"mark on a move that is not enabled",
-        buf,
-        len,
-        image,
-        16,
-        4,
-    );
-    spoilt(b"mark on a move that ends good", buf, len, image, 16, 2);
-    let len = ranked(buf);
-    spoilt(b"mark on a move that is outranked", buf, len, image, 16, 2);
+// The calls, by their places among the names.
+pub(super) fn call_step(word: usize, n: usize, lent: &Memory, images: &mut Memory, s: &mut State) {
+    s[state::KIND] = kind_called(word);
+    s[state::VALUE] = match word {
+        15 => start_all(lent, images, s),
+        23 => turn(lent, images, s),
+        _ => call(word, n, lent, images, s),
+    };
 }
 
-// Starting states that are bad: refusal 15.
-fn bad_starts(buf: &mut Buffer, image: &mut Image) {
-    let len = sample(buf);
-    poke(buf, 49, 2);
-    line(b"starting location bad", Call::Start, buf, len, image);
-    let len = sample(buf);
-    poke(buf, 22, 1);
-    line(b"first oracle state bad", Call::Start, buf, len, image);
+// What kind of thing a call gives.
+fn kind_called(word: usize) -> usize {
+    match word {
+        23 => state::TURN,
+        24..=25 => state::NUMBER,
+        _ => state::ANSWER,
+    }
 }
 
-// Numbers that are no interaction, and moves that are not enabled: refusals 16 and 17.
-fn tries(buf: &mut Buffer, image: &mut Image) {
-    let len = sample(buf);
-    afresh(b"try 3", Call::Try(3), buf, len, image);
-    afresh(b"try 4294967295", Call::Try(4294967295), buf, len, image);
-    afresh(b"try 2 at start", Call::Try(2), buf, len, image);
-    afresh(b"settle at start", Call::Settle, buf, len, image);
-    line(b"try 1 after move 1", Call::Try(1), buf, len, image);
+// image AT N ..: bytes of the images from a place on.
+fn change(numbers: &Numbers, n: usize, images: &mut Memory, s: &mut State) {
+    if write(images, numbers[0], 1, numbers, 1, n) > ROSTER {
+        s[state::KIND] = state::BROKEN;
+    }
 }
 
-// Each call on the image that a cancelled move left: refusal 19.
-fn cancelled(buf: &mut Buffer, image: &mut Image) {
-    let len = sample(buf);
-    afresh(b"try 0 at start", Call::Try(0), buf, len, image);
-    line(b"then check", Call::Check, buf, len, image);
-    line(b"then offered", Call::Offered, buf, len, image);
-    bits(b"then offered bits", buf, len, image);
-    line(b"then try 0", Call::Try(0), buf, len, image);
-    line(b"then settle", Call::Settle, buf, len, image);
-    line(b"then start", Call::Start, buf, len, image);
+// size N: the first N bytes of the images are lent.
+fn set_size(n: usize, s: &mut State) {
+    s[state::SIZE] = n;
+    if n > ROSTER {
+        s[state::KIND] = state::BROKEN;
+    }
 }
 
-// As many interactions as there are marks, all of them bad.
-fn all_marks(buf: &mut Buffer, image: &mut Image) {
-    let len = many(buf);
-    line(b"64 interactions, start", Call::Start, buf, len, image);
-    bits(b"64 interactions, offered bits", buf, len, image);
-    line(b"64 interactions, try 63", Call::Try(63), buf, len, image);
-    line(b"64 interactions, settle", Call::Settle, buf, len, image);
-    bits(b"64 interactions, offered bits then", buf, len, image);
-    line(
-        b"64 interactions, try 0 then",
-        Call::Try(0),
-        buf,
-        len,
-        image,
-    );
-    line(
-        b"64 interactions, settle again",
-        Call::Settle,
-        buf,
-        len,
-        image,
-    );
+// The steps on images and on the roster, by their places among the names.
+pub(super) fn lane_step(
+    word: usize,
+    numbers: &Numbers,
+    n: usize,
+    images: &mut Memory,
+    s: &mut State,
+) {
+    match word {
+        11 => change(numbers, n, images, s),
+        12 => set_size(numbers[0], s),
+        13 => set_lanes(numbers, n, images, s),
+        _ => set_lane(numbers, images, s),
+    }
 }
 
-// A safe move below a bad one: refusal 18 until the bad one is marked. Then the image with the mark
-// under the plan without the rank.
-fn ranks(buf: &mut Buffer, image: &mut Image) {
-    let len = ranked(buf);
-    afresh(b"ranked, try 1", Call::Try(1), buf, len, image);
-    bits(b"ranked, offered bits", buf, len, image);
-    line(b"ranked, settle", Call::Settle, buf, len, image);
-    afresh(b"ranked, try 0", Call::Try(0), buf, len, image);
-    bits(b"ranked, offered bits then", buf, len, image);
-    line(b"ranked, try 0 then", Call::Try(0), buf, len, image);
-    line(b"ranked, try 1 then", Call::Try(1), buf, len, image);
-    afresh(b"ranked, try 0 again", Call::Try(0), buf, len, image);
-    let len = sample(buf);
-    line(
-        b"the same image without the rank, settle",
-        Call::Settle,
-        buf,
-        len,
-        image,
-    );
+// Whether images and roster are as before the last call, up to a place and but for the bytes between two.
+fn alike(images: &Memory, end: usize, from: usize, to: usize) -> bool {
+    if end > BEFORE {
+        return false;
+    }
+    let mut i = 0;
+    while i < end {
+        if (images[i] != images[BEFORE + i]) & ((i < from) | (i >= to)) {
+            return false;
+        }
+        i += 1;
+    }
+    true
 }
 
-// A plan in which nothing moves, and the image then under the sample lane.
-fn stalls(buf: &mut Buffer, image: &mut Image) {
-    let len = lane(buf, 0);
-    afresh(b"no transitions, settle", Call::Settle, buf, len, image);
-    let len = sample(buf);
-    line(
-        b"the same image with the transitions, settle",
-        Call::Settle,
-        buf,
-        len,
-        image,
-    );
+// As a number: 1 where it is so.
+fn number(b: bool) -> usize {
+    if b {
+        return 1;
+    }
+    0
 }
 
-// Every case on an image, in the order of the stored output. It prints only, which no contract states.
-pub(super) fn run() {
-    let mut buf = io::large_buffer();
-    let mut image = [0u8; 313];
-    starts(&mut buf, &mut image);
-    lengths(&mut buf, &mut image);
-    forms(&mut buf, &mut image);
-    states(&mut buf, &mut image);
-    marks(&mut buf, &mut image);
-    bad_starts(&mut buf, &mut image);
-    tries(&mut buf, &mut image);
-    cancelled(&mut buf, &mut image);
-    all_marks(&mut buf, &mut image);
-    ranks(&mut buf, &mut image);
-    stalls(&mut buf, &mut image);
+// others N: whether the images are as before the last call, but for that of lane N.
+fn others(images: &Memory, n: usize) -> bool {
+    if n > 9 {
+        return false;
+    }
+    alike(images, ROSTER, n * LENGTH, n * LENGTH + LENGTH)
+}
+
+// value N: the bits of variable N in the image.
+fn value(images: &Memory, n: usize) -> usize {
+    if n >= 64 {
+        return 0;
+    }
+    u32_at(images, value_at(n)) as usize
+}
+
+// byte AT: a byte of the images.
+fn byte(images: &Memory, at: usize) -> usize {
+    if at >= images.len() {
+        return 0;
+    }
+    wide(images[at])
+}
+
+// marks: the marks of the image.
+fn marks(images: &Memory) -> usize {
+    u64_at(images, MARKS) as usize
+}
+
+// What is looked at in the images and the roster.
+fn seen(word: usize, n: usize, images: &Memory) -> usize {
+    match word {
+        26 => byte(images, n),
+        27 => marks(images),
+        28 => value(images, n),
+        29 => number(alike(images, ROSTER, MARKS, MARKS + 8)),
+        30 => number(others(images, n)),
+        _ => number(alike(images, BEFORE, 0, 0)),
+    }
+}
+
+// What kind of thing a look gives.
+fn kind_seen(word: usize) -> usize {
+    match word {
+        26..=27 => state::NUMBER,
+        28 => state::SIGNED,
+        29 => state::IMAGE,
+        30..=31 => state::IMAGES,
+        32 => state::WAITS,
+        _ => state::BROKEN,
+    }
+}
+
+// The numbers that a look takes are below this.
+fn limit_of(word: usize) -> usize {
+    match word {
+        26 => ROSTER,
+        28 => 64,
+        30 => 10,
+        _ => 1,
+    }
+}
+
+// The looks, by their places among the names.
+pub(super) fn look(word: usize, n: usize, images: &Memory, s: &mut State) {
+    s[state::KIND] = kind_seen(word);
+    if n >= limit_of(word) {
+        s[state::KIND] = state::BROKEN;
+    }
+    s[state::VALUE] = seen(word, n, images);
 }
