@@ -160,15 +160,22 @@ ALWAYS_INLINE int span_ok(const Plan *x, int stores, int prop, uint64_t names, c
   const uint8_t *w = x->code + 2 * start, *end = w + 2 * size;
   for (; w < end; w += 2) {
     unsigned word = r16(w), n = word & 4095, c = n >> 8, l = n & 255;
-    switch (word >> 12) {
-    case 0: d++; break;
-    case 1: if (d < 1) return 0; break;
-    case 2: if (n >= 64 || !(names >> n & 1)) return 0; d++; break;
-    case 3: if (!stores || n >= 64 || !(names >> n & 1) || d < 1) return 0; d--; break;
-    case 4: if (!prop || c >= x->C || l >= x->comp[4 * c]) return 0; d++; break;
-    case 5: if (!prop || c >= x->C || (l != 255 && l >= x->comp[4 * c + 2])) return 0; d++; break;
-    case 6: two = n != 6; if (n > 7 || d <= two) return 0; d -= two; break;
-    default: return 0;
+    if (word >= 0x6000) {
+      two = n != 6;
+      if (word > 0x6007 || d <= two) return 0;
+      d -= two;
+    } else if (word < 0x2000) {
+      if (word < 0x1000) d++;
+      else if (d < 1) return 0;
+    } else if (word < 0x4000) {
+      if (n >= 64 || !(names >> n & 1)) return 0;
+      if (word < 0x3000) d++;
+      else if (!stores || d < 1) return 0;
+      else d--;
+    } else {
+      if (!prop || c >= x->C) return 0;
+      if (word < 0x5000 ? l >= x->comp[4 * c] : l != 255 && l >= x->comp[4 * c + 2]) return 0;
+      d++;
     }
     if (d > 8) return 0;
   }
@@ -221,29 +228,35 @@ static inline int32_t held(int64_t exact) {
   return WRAPS || low == exact ? low : end;
 }
 
-/* Runs a span that passed the check. Answers the value left on the stack (guards and propositions). */
+/* What operator n, any but 6, makes of two values. */
+static inline int32_t operated(unsigned n, int32_t left, int32_t right) {
+  if (n < 2) return n == 0 ? held((int64_t)left + right) : held((int64_t)left - right);
+  if (n < 4) return n == 2 ? left == right : left >= right;
+  if (n == 4) return (left != 0) & (right != 0);
+  if (n == 5) return (left | right) != 0;
+  return (left == 0) | (right != 0);
+}
+
+/* Runs a span that passed the check. Answers the value left on the stack (guards and propositions). In a tree of tests, as in span_ok: a switch jumps
+   through a table, and the maximal plans take 1.15 times as long. */
 static int32_t run(const Plan *x, const uint8_t *rec, Lane *lane) {
   int32_t st[9], top = 0, *sp = st; /* the top lies beside the stack; st[0] is no value */
   const uint8_t *w = x->code + 2 * r16(rec), *end = w + 2 * r16(rec + 2);
   for (; w < end; w += 2) {
-    unsigned word = r16(w), n = word & 4095, op = word >> 12;
-    if (op == 6) op += n;
-    switch (op) {
-    case 0: *sp++ = top; top = (int32_t)n; break;
-    case 1: top = held((int64_t)top * 4096 + n); break;
-    case 2: *sp++ = top; top = lane->val[n]; break;
-    case 3: lane->val[n] = top; top = *--sp; break;
-    case 4: *sp++ = top; top = lane->loc[n >> 8] == (n & 255); break;
-    case 5: *sp++ = top; top = lane->last[n >> 8] == (n & 255); break;
-    case 6: top = held((int64_t)*--sp + top); break;
-    case 7: top = held((int64_t)*--sp - top); break;
-    case 8: top = *--sp == top; break;
-    case 9: top = *--sp >= top; break;
-    case 10: sp--; top = (*sp != 0) & (top != 0); break;
-    case 11: sp--; top = (*sp | top) != 0; break;
-    case 12: top = !top; break;
-    case 13: sp--; top = (*sp == 0) | (top != 0); break;
-    default: __builtin_unreachable();
+    unsigned word = r16(w), n = word & 4095;
+    if (word >= 0x6000) {
+      if (n == 6) top = !top;
+      else top = operated(n, *--sp, top);
+    } else if (word < 0x2000) {
+      if (word < 0x1000) { *sp++ = top; top = (int32_t)n; }
+      else top = held((int64_t)top * 4096 + n);
+    } else if (word < 0x4000) {
+      if (word < 0x3000) { *sp++ = top; top = lane->val[n]; }
+      else { lane->val[n] = top; top = *--sp; }
+    } else {
+      const uint8_t *at = word < 0x5000 ? lane->loc : lane->last;
+      *sp++ = top;
+      top = at[n >> 8] == (n & 255);
     }
   }
   return top;

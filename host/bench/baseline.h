@@ -15,5 +15,7 @@
   uint32_t pre##_log(const uint8_t *, size_t, const uint8_t *, size_t); \
   uint64_t pre##_log_index(const uint8_t *, size_t, const uint8_t *, size_t);
 CALLS(base)
+CALLS(native) /* baseline.c again, built with other flags */
+CALLS(self)   /* and once more with these: what placement and noise alone do */
 CALLS(yard)
 #endif

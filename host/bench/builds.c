@@ -1,7 +1,7 @@
-/* Two builds of the library, a second copy of the old one and the baseline in C, timed in turn in one run, best of rounds.
+/* Two builds of the library, a second copy of the old one and the baseline in C, the better of its two builds, timed in turn in one run, best of rounds.
    What copy / old differs from 1 by is placement and noise; new / old is told from it only beyond that,
    and only if it is so again: equal builds have a cell above the greatest copy / old in about every second run.
-   Plans that the old build refuses are left out, and lists or turns where it has none. Cells in which one of the four answers or writes
+   Plans that the old build refuses are left out, and lists or turns where it has none. Cells in which one of them answers or writes
    something else are marked and stand in no spread: there it does other work.
    builds ROUNDS PLAN... */
 #define _GNU_SOURCE
@@ -11,8 +11,8 @@ CALLS(old)
 CALLS(new)
 CALLS(copy)
 
-enum { OLD, NEW, COPY, BASE };
-static const Engine engines[4] = {ENGINE(old), ENGINE(new), ENGINE(copy), ENGINE(base)};
+enum { OLD, NEW, COPY, BASE, NATIVE, BUILDS };
+static const Engine engines[BUILDS] = {ENGINE(old), ENGINE(new), ENGINE(copy), ENGINE(base), ENGINE(native)};
 
 /* new / old or copy / old. */
 static double ratio(const Cell *c, int who) { return c->best[who] / c->best[OLD]; }
@@ -21,7 +21,7 @@ static void print_ratios(const Cell *c) {
   printf(" %.3f, %.3f%s |", ratio(c, NEW), ratio(c, COPY), c->differ ? ", differ" : "");
 }
 
-static void print_times(const Cell *c) { printf(" %.0f, %.0f, %.0f |", c->best[OLD], c->best[NEW], c->best[BASE]); }
+static void print_times(const Cell *c) { printf(" %.0f, %.0f, %.0f |", c->best[OLD], c->best[NEW], better(c, BASE, NATIVE)); }
 
 static int alike(const Cell *c) { return c->there && !c->differ; }
 
@@ -77,7 +77,7 @@ static void ask_old(void) {
 int main(int argc, char **argv) {
   ask_old();
   argc = leave_out(argc, argv);
-  int rounds = measure(engines, 4, argc, argv);
+  int rounds = measure(engines, BUILDS, argc, argv);
   printf("new / old, copy / old, best of %d rounds.\n\n", rounds);
   print_table(argc, argv, print_ratios);
   printf("\nNanoseconds a call: old, new, C.\n\n");

@@ -1,4 +1,4 @@
-/* ns an entry of a long log: by yard_log, by the baseline's, and by calls of yard_try that commit the same moves, interleaved, best of rounds.
+/* ns an entry of a long log: by yard_log, by the baseline's, the better of its two builds, and by calls of yard_try that commit the same moves, interleaved, best of rounds.
    The log is a run by settling; once it comes back to a state it goes round from there. Plans whose run ends sooner are named and left out.
    A try goes past marked interactions alone, so that before a move all enabled ones above it are tried.
    logs ROUNDS ENTRIES PLAN... */
@@ -72,7 +72,7 @@ static void make_log(const Bytes *tries, Bytes *log) {
     if (tries->bytes[k] & ENTRY) { add(log, tries->bytes[k] & 63); add(log, 0); }
 }
 
-enum { YARD, BASE, TRIES, WAYS };
+enum { YARD, BASE, NATIVE, TRIES, WAYS };
 
 /* How many entries a way accepts, all or nothing but for the tries. */
 static size_t accepted(int way, const Plan *p, const Bytes *log, const Bytes *tries) {
@@ -80,6 +80,7 @@ static size_t accepted(int way, const Plan *p, const Bytes *log, const Bytes *tr
   size_t committed = 0;
   if (way == YARD) return yard_log(p->bytes, p->len, log->bytes, log->len) ? 0 : log->len / 2;
   if (way == BASE) return base_log(p->bytes, p->len, log->bytes, log->len) ? 0 : log->len / 2;
+  if (way == NATIVE) return native_log(p->bytes, p->len, log->bytes, log->len) ? 0 : log->len / 2;
   yard_start(p->bytes, p->len, b, IMAGE);
   for (size_t k = 0; k < tries->len; k++)
     committed += yard_try(p->bytes, p->len, b, IMAGE, tries->bytes[k] & 63) >> 16 == 1;
@@ -103,7 +104,7 @@ static int time_ways(int rounds, const Plan *p, const Bytes *log, const Bytes *t
 /* A line of the table, or why there is none; 0 where a log was found wrong. */
 static int print_plan(int rounds, size_t entries, char *path) {
   static Bytes log, tries;
-  double best[WAYS] = {1e18, 1e18, 1e18};
+  double best[WAYS] = {1e18, 1e18, 1e18, 1e18};
   load(path, &plans[0]);
   size_t count = make_run(&plans[0], entries, &tries);
   if (count < entries) {
@@ -112,7 +113,8 @@ static int print_plan(int rounds, size_t entries, char *path) {
   }
   make_log(&tries, &log);
   if (!time_ways(rounds, &plans[0], &log, &tries, best)) { printf("| %s | differs | | | | | |\n", basename(path)); return 0; }
-  printf("| %s | %.1f | %.1f | %.2f | %zu | %.1f | %.1f |\n", basename(path), best[YARD], best[BASE], best[YARD] / best[BASE],
+  double c = best[BASE] < best[NATIVE] ? best[BASE] : best[NATIVE];
+  printf("| %s | %.1f | %.1f | %.2f | %zu | %.1f | %.1f |\n", basename(path), best[YARD], c, best[YARD] / c,
          tries.len, best[TRIES], best[TRIES] / best[YARD]);
   fflush(stdout);
   return 1;

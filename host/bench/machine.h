@@ -10,6 +10,6 @@ static void print_machine(void) {
   while (f && fgets(line, sizeof line, f))
     if (!strncmp(line, "model name", 10)) sscanf(strchr(line, ':') + 1, " %255[^\n]", model);
   if (f) fclose(f);
-  printf("Machine: %s. libyard.a: %s. C: gcc %s, %s.\n\n", model, KIT, __VERSION__, FLAGS);
+  printf("Machine: %s. libyard.a: %s. C: gcc %s, with -O2 and with %s.\n\n", model, KIT, __VERSION__, NATIVE_FLAGS);
 }
 #endif

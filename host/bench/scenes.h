@@ -10,7 +10,7 @@
 #include <time.h>
 
 enum { IMAGE = 312, BATCH_NS = 50000 };  /* a batch is short, so that some fall where nothing else runs */
-enum { ENGINES = 4 };                    /* at most */
+enum { ENGINES = 7 };                    /* at most */
 enum { PLANS = 64, PASSES = 10 };        /* passes over all plans: other work falls on no cell's rounds alone */
 enum { DEPTHS = 7, DEPTH = 592 };        /* places of the stack within a page, tried in turn */
 enum { LIST = 16 };                      /* bytes of the longest list */
@@ -31,13 +31,13 @@ typedef struct {
 typedef struct { uint8_t bytes[65536]; size_t len; } Plan;
 typedef struct { _Alignas(4096) uint8_t bytes[IMAGES]; } Images; /* a page, so that no engine has the better place; one lane has the first of them */
 
-enum column { CHECK, START, OFFERED, COMMITTED, CANCELLED, FIRST, SETTLE, WHOLE, STOPPED, TURN, COLUMNS };
+enum column { CHECK, START, OFFERED, MARKED, COMMITTED, CANCELLED, FIRST, PAST_MARKS, SETTLE, WHOLE, STOPPED, TURN, COLUMNS };
 static const char *const columns[COLUMNS] = {
-  "check", "start", "offered", "try, committed", "try, cancelled", "settle, first", "settle, long run", "list, committed", "list, cancelled",
-  "turn of eight lanes",
+  "check", "start", "offered", "offered, marks", "try, committed", "try, cancelled", "settle, first", "settle, marks", "settle, long run", "list, committed",
+  "list, cancelled", "turn of eight lanes",
 };
 
-/* A try, a first settling and a list begin from the image each time (its copying is timed too); the long run and the turns, whose eight lanes begin alike,
+/* A try, a first settling, one with marks and a list begin from the image each time (its copying is timed too); the long run and the turns, whose eight lanes begin alike,
    go on from where they stopped. */
 typedef struct { enum column column; uint8_t image[IMAGE]; uint32_t number; uint8_t list[LIST]; size_t list_len; } Job;
 
@@ -73,13 +73,15 @@ static uint64_t repeat(const Engine *e, const Plan *p, const Job *job, uint8_t *
   switch (job->column) {
   case CHECK: for (unsigned k = 0; k < times; k++) sum += e->check(plan, len); break;
   case START: for (unsigned k = 0; k < times; k++) sum += e->start(plan, len, b, IMAGE); break;
-  case OFFERED: for (unsigned k = 0; k < times; k++) sum += e->bits(plan, len, b, IMAGE); break;
+  case OFFERED:
+  case MARKED: for (unsigned k = 0; k < times; k++) sum += e->bits(plan, len, b, IMAGE); break;
   case SETTLE: for (unsigned k = 0; k < times; k++) sum += e->settle(plan, len, b, IMAGE); break;
   case TURN:
     free_lanes(roster);
     for (unsigned k = 0; k < times; k++) sum += e->turn(plan, len, roster, LANES, b, IMAGES);
     break;
   case FIRST:
+  case PAST_MARKS:
     for (unsigned k = 0; k < times; k++) {
       memcpy(b, job->image, IMAGE);
       sum += e->settle(plan, len, b, IMAGE);
@@ -165,6 +167,23 @@ static int find_try(const Plan *p, uint32_t kind, Job *job) {
   return 0;
 }
 
+/* The image with the most marks on a walk from the start by random tries; where nothing is on offer it settles, or begins anew. */
+static int find_marks(const Plan *p, Job *job) {
+  uint8_t b[IMAGE];
+  int most = 0;
+  if (base_start(p->bytes, p->len, b, IMAGE)) return 0;
+  for (int step = 0; step < 2000; step++) {
+    uint64_t marks, offered = base_offered_bits(p->bytes, p->len, b, IMAGE);
+    if (offered) base_try(p->bytes, p->len, b, IMAGE, some_bit(offered));
+    else if (base_settle(p->bytes, p->len, b, IMAGE) >> 16 != 1) base_start(p->bytes, p->len, b, IMAGE);
+    memcpy(&marks, b + 16, 8);
+    if (__builtin_popcountll(marks) <= most) continue;
+    most = __builtin_popcountll(marks);
+    memcpy(job->image, b, IMAGE);
+  }
+  return most > 0;
+}
+
 static void add_to_list(Job *job, uint32_t number) {
   job->list[job->list_len++] = (uint8_t)number;
   job->list[job->list_len++] = (uint8_t)(number >> 8);
@@ -215,6 +234,7 @@ static int make_job(const Plan *p, enum column column, Job *job) {
   job->column = column;
   if (column == COMMITTED) return find_try(p, 1, job);
   if (column == CANCELLED) return find_try(p, 2, job);
+  if (column == MARKED || column == PAST_MARKS) return find_marks(p, job);
   if (column == WHOLE) return have_lists && find_list(p, job);
   if (column == STOPPED) return have_lists && find_stop(p, job);
   if (column == OFFERED || column == FIRST || column == SETTLE || column == TURN) base_start(p->bytes, p->len, job->image, IMAGE);
@@ -254,6 +274,9 @@ static int measure(const Engine *e, int n, int argc, char **argv) {
     for (int k = 0; k < count; k++) time_cells(e, n, &plans[k], from, from + rounds, cells[k]);
   return PASSES * rounds;
 }
+
+/* The better time of two builds of one engine. */
+static double better(const Cell *c, int one, int other) { return c->best[one] < c->best[other] ? c->best[one] : c->best[other]; }
 
 /* Prints a line for each cell in which the engines differ; gives how many there are. */
 static int print_differing(int argc, char **argv) {

@@ -1,7 +1,7 @@
 -- The depth that the rules of a span count, as the checker holds it: 99 where a rule is broken.
 use Rattle.words.proofs.TestLaws.{first-fails, second-fails, third-decides, rest-decides}
 use mathlib.Core.Path.{_≡_, refl, sym, ap, _∙_, subst}
-use Prim.Native.Nat.{ℕ, suc, _+_, _-_, _≤_, _<_}
+use Prim.Native.Nat.{ℕ, suc, _+_, _-_, _/_, _%_, _≤_, _<_}
 use native.Mathlib.Nat.{lt-irrefl, le-trans}
 use native.Mathlib.Numerals.{add-one}
 use native.Mathlib.Omega.{arith}
@@ -11,8 +11,8 @@ use lib.ListN.{List·getD-eq-default}
 use lib.Dec.{leb, eqb}
 use Rattle.semantics.specs.Bytes.{allOf}
 use Rattle.semantics.specs.Plan.{Plan, Span, codeWords, word}
-use Rattle.semantics.specs.Code.{unknown, instruction, decode, Role, allowed, depthAfter, deeper, depth, finalDepth, endsAt, spanOk}
-use Rattle.semantics.proofs.Basics.{le-leb, lt-leb, eq-eqb, ne-eqb}
+use Rattle.semantics.specs.Code.{unknown, instruction, decode, Role, allowed, pops, pushes, depthAfter, deeper, depth, finalDepth, endsAt, spanOk}
+use Rattle.semantics.proofs.Basics.{le-leb, lt-leb, le-ltb, eqb-true, eqb-false, eq-eqb, ne-eqb}
 use Rattle.semantics.proofs.Spans.{depth-before, depth-low}
 use Rattle.checker.specs.Depth.{broken, number, capped}
 
@@ -35,9 +35,23 @@ depth-after-enough need give d h = rw (le-leb need d h) (by-room (leb (d - need 
     by-room false = refl
 
 -- kinds past 6 break the rules
-pub kind-past : (p : Plan) (r : Role) (names : ℕ → Bool) (k n d : ℕ) → 7 ≤ k → capped broken ≡ number (deeper p r names (instruction k n) (some d))
+kind-past : (p : Plan) (r : Role) (names : ℕ → Bool) (k n d : ℕ) → 7 ≤ k → capped broken ≡ number (deeper p r names (instruction k n) (some d))
 unfolding instruction deeper allowed number capped depthAfter allOf
 kind-past p r names k n d h = rw (List·getD-eq-default _ unknown h)
+
+-- so do the operators past 7
+operator-past : (p : Plan) (r : Role) (names : ℕ → Bool) (n d : ℕ) → 8 ≤ n → capped broken ≡ number (deeper p r names (instruction 6 n) (some d))
+unfolding instruction deeper allowed pops pushes
+operator-past p r names n d h = rw (le-ltb n 8 h) (depth-after-no _ _ _)
+
+-- the words from 24584 on are of these
+pub word-past : (p : Plan) (r : Role) (names : ℕ → Bool) (w d : ℕ) → 24584 ≤ w → capped broken ≡ number (deeper p r names (decode w) (some d))
+unfolding decode
+word-past p r names w d h = by-kind (eqb (w / 4096) 6) refl
+  where
+    by-kind : (b : Bool) → eqb (w / 4096) 6 ≡ b → capped broken ≡ number (deeper p r names (instruction (w / 4096) (w % 4096)) (some d))
+    by-kind true e = let k : w / 4096 ≡ 6 = eqb-true (w / 4096) 6 e in rw k (operator-past p r names (w % 4096) d (omega arith))
+    by-kind false e = kind-past p r names (w / 4096) (w % 4096) d (omega (arith, eqb-false (w / 4096) 6 e))
 
 -- ---- word by word
 

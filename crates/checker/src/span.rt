@@ -8,7 +8,7 @@ ghost use lib.ListN.{length};
 ghost use lib.Dec.{ltb, eqb};
 ghost use Rattle.semantics.specs.Bytes.{bit, allOf};
 ghost use Rattle.semantics.specs.Plan.{noPort, components, codeWords, locations, ports, spanAt};
-ghost use Rattle.semantics.specs.Code.{instruction, decode, operatorPops, operatorPushes, depthAfter, deeper, depth, finalDepth, endsAt, spanOk};
+ghost use Rattle.semantics.specs.Code.{decode, operatorPops, operatorPushes, depthAfter, deeper, depth, finalDepth, endsAt, spanOk};
 ghost use Rattle.layout.specs.Laid.{Laid};
 ghost use Rattle.checker.specs.Depth.{capped, number, roleOf, Tables};
 use code::word;
@@ -88,36 +88,31 @@ fn operator(pops: &[u8; 8], pushes: &[u8; 8], n: usize, d: usize) -> usize
     depth_after(true, bytes::wide(pops[n]), bytes::wide(pushes[n]), d)
 }
 
-// The depth after a word of a kind with an operand.
-fn by_kind(
-    plan: &[u8],
-    pops: &[u8; 8],
-    pushes: &[u8; 8],
-    stores: bool,
-    looks: bool,
-    names: u64,
-    d: usize,
-    kind: u16,
-    n: usize,
-) -> usize
+// The depth after a word of the kinds 0 to 5. The top four bits are the kind: in hexadecimal the first digit. A tree of matches, three arms at most, since
+// more would become a jump through a table.
+fn by_kind(plan: &[u8], stores: bool, looks: bool, names: u64, d: usize, w: u16) -> usize
     requires { ⌜ Laid (now plan) ⌝ }
-    requires { ⌜ (d ≤ 8) × Tables (now pops) (now pushes) ⌝ }
-    ensures { λ r. ⌜ capped r ≡ number (deeper (now (plan .entry)) (roleOf stores looks) (bit names) (instruction kind n) (some d)) ⌝ }
+    requires { ⌜ (d ≤ 8) × (w < 24576) ⌝ }
+    ensures { λ r. ⌜ capped r ≡ number (deeper (now (plan .entry)) (roleOf stores looks) (bit names) (decode w) (some d)) ⌝ }
 {
-    match kind {
-        0 => depth_after(true, 0, 1, d),
-        1 => depth_after(true, 1, 1, d),
-        2 => depth_after(named(names, n), 0, 1, d),
-        3 => depth_after(stores & named(names, n), 1, 0, d),
-        4 => depth_after(may_ask_place(plan, looks, n), 0, 1, d),
-        5 => depth_after(may_ask_port(plan, looks, n), 0, 1, d),
-        6 => operator(pops, pushes, n, d),
-        7..=15 => BROKEN,
-        _ => BROKEN,
+    let n = word::operand(w) as usize;
+    match w {
+        ..=0x1fff => match w {
+            ..=0x0fff => depth_after(true, 0, 1, d),
+            _ => depth_after(true, 1, 1, d),
+        },
+        0x2000..=0x3fff => match w {
+            ..=0x2fff => depth_after(named(names, n), 0, 1, d),
+            _ => depth_after(stores & named(names, n), 1, 0, d),
+        },
+        _ => match w {
+            ..=0x4fff => depth_after(may_ask_place(plan, looks, n), 0, 1, d),
+            _ => depth_after(may_ask_port(plan, looks, n), 0, 1, d),
+        },
     }
 }
 
-// The depth after a word.
+// The depth after a word: of the kinds 0 to 5, an operator (kind 6), or unknown, the operators past 7 and the kinds 7 to 15.
 fn deepen(
     plan: &[u8],
     pops: &[u8; 8],
@@ -132,17 +127,11 @@ fn deepen(
     requires { ⌜ (d ≤ 8) × Tables (now pops) (now pushes) ⌝ }
     ensures { λ r. ⌜ capped r ≡ number (deeper (now (plan .entry)) (roleOf stores looks) (bit names) (decode w) (some d)) ⌝ }
 {
-    by_kind(
-        plan,
-        pops,
-        pushes,
-        stores,
-        looks,
-        names,
-        d,
-        word::kind(w),
-        word::operand(w) as usize,
-    )
+    match w {
+        0..=0x5fff => by_kind(plan, stores, looks, names, d, w),
+        0x6000..=0x6007 => operator(pops, pushes, (w - 0x6000) as usize, d),
+        0x6008..=0xffff => BROKEN,
+    }
 }
 
 // The depth at which a span ends.

@@ -2,30 +2,21 @@
 use mathlib.Core.Path.{_≡_, refl, sym, ap, ap₂, _∙_}
 use Prim.Native.Nat.{ℕ, zero, suc, _-_, _≤_, _<_}
 use native.Mathlib.Omega.{arith}
-use mathlib.Core.Bool.{not, _&&_, _||_}
-use mathlib.Core.List.{List, [], _∷_}
-use lib.ListN.{getD, drop, List·getD-eq-default}
+use mathlib.Core.Bool.{not}
+use mathlib.Core.List.{List, _∷_}
+use lib.ListN.{getD, drop}
 use lib.IntN.{ℤ, pos}
-use Rattle.semantics.specs.Bytes.{implies}
-use Rattle.semantics.specs.Signed.{add, subtract, equalZ, atLeast, holds, truth}
+use Rattle.semantics.specs.Signed.{holds, truth}
 use Rattle.semantics.specs.Code.{operate, operatorPops}
 use Rattle.code.specs.Held.{held, combined}
 use Rattle.code.proofs.StackHeld.{replaced, joined, top-held, below-held}
 
--- no operator past 7 is known
-pub operate-past : (n : ℕ) (l r : ℤ) → 8 ≤ n → pos 0 ≡ operate n l r
-unfolding operate
-operate-past n l r h = sym (List·getD-eq-default (add l r ∷ subtract l r ∷ truth (equalZ l r) ∷ truth (atLeast l r)
-    ∷ truth (holds l && holds r) ∷ truth (holds l || holds r) ∷ truth (not (holds r))
-    ∷ truth (implies (holds l) (holds r)) ∷ []) (pos 0) h)
-
--- `not` replaces the top, whatever is handed to it as the value below
-pub held-not : (a : List ℤ) (d n : ℕ) (t l v : ℤ) → n ≡ 6 → 0 < d → v ≡ operate n l t
+-- `not` replaces the top
+pub held-not : (a : List ℤ) (d n : ℕ) (t v : ℤ) → n ≡ 6 → 0 < d → v ≡ truth (not (holds t))
     → held a d v ≡ combined n (held a d t)
 unfolding operate operatorPops
-held-not a d n t l v e h q =
-    let f : v ≡ truth (not (holds t)) = rw e at q in
-    rw e (replaced a d t v h ∙ ap (λ (x : ℤ). x ∷ drop 1 (held a d t)) (f ∙ ap (λ (x : ℤ). truth (not (holds x))) (top-held a d t h)))
+held-not a d n t v e h q =
+    rw e (replaced a d t v h ∙ ap (λ (x : ℤ). x ∷ drop 1 (held a d t)) (q ∙ ap (λ (x : ℤ). truth (not (holds x))) (top-held a d t h)))
 
 -- every other known operator takes two values
 two : (n : ℕ) → n < 8 → (n ≡ 6 → ⊥) → operatorPops n ≡ 2

@@ -1,6 +1,7 @@
 -- One code word on the evaluator's machine, kind by kind: what it has, and what it does.
 use mathlib.Core.Path.{_≡_, refl, sym, ap, subst}
-use Prim.Native.Nat.{ℕ, _/_, _%_, _≤_, _<_}
+use Prim.Native.Nat.{ℕ, zero, suc, _/_, _%_, _≤_, _<_}
+use native.Mathlib.Omega.{arith}
 use mathlib.Core.List.{List, [], _∷_}
 use lib.ListN.{getD, set, drop, List·getD-eq-default}
 use lib.Dec.{eqb}
@@ -100,7 +101,34 @@ instruction-past k n h =
     List·getD-eq-default
     (push n ∷ extendTop n ∷ load n ∷ store n ∷ located (n / 256) (n % 256) ∷ lastPort (n / 256) (n % 256) ∷ operator n ∷ []) unknown h
 
--- a word of such a kind does nothing
-pub did-nothing : (s : State) (k n : ℕ) (m : Machine) → 7 ≤ k → m ≡ perform (instruction k n) s m
-unfolding perform
-did-nothing s k n m h = subst (λ (i : Instruction). m ≡ perform i s m) (sym (instruction-past k n h)) refl
+-- of the kinds from 6 on only that of the operators is known
+pub last-known : (end k n d : ℕ) → 6 ≤ k → Fit end (instruction k n) d → k ≡ 6
+last-known end zero n d h f = absurd (omega arith)
+last-known end (suc zero) n d h f = absurd (omega arith)
+last-known end (suc (suc zero)) n d h f = absurd (omega arith)
+last-known end (suc (suc (suc zero))) n d h f = absurd (omega arith)
+last-known end (suc (suc (suc (suc zero)))) n d h f = absurd (omega arith)
+last-known end (suc (suc (suc (suc (suc zero))))) n d h f = absurd (omega arith)
+last-known end (suc (suc (suc (suc (suc (suc zero)))))) n d h f = refl
+last-known end (suc (suc (suc (suc (suc (suc (suc k))))))) n d h f =
+    absurd (subst (λ (i : Instruction). Fit end i d) (instruction-past (suc (suc (suc (suc (suc (suc (suc k))))))) n (omega arith)) f)
+
+-- of the kinds 2 and 3 a guard has the first
+pub guard-loads : (k n d : ℕ) → 2 ≤ k → k < 4 → Fit 1 (instruction k n) d → k ≡ 2
+unfolding instruction
+guard-loads zero n d h l f = absurd (omega arith)
+guard-loads (suc zero) n d h l f = absurd (omega arith)
+guard-loads (suc (suc zero)) n d h l f = refl
+guard-loads (suc (suc (suc zero))) n d h l f = let z : _≡_ {A = ℕ} 1 0 = f .0 in absurd (omega arith)
+guard-loads (suc (suc (suc (suc k)))) n d h l f = absurd (omega arith)
+
+-- of the kinds 3 to 5 an action has the first
+pub action-stores : (k n d : ℕ) → 3 ≤ k → k < 6 → Fit 0 (instruction k n) d → k ≡ 3
+unfolding instruction
+action-stores zero n d h l f = absurd (omega arith)
+action-stores (suc zero) n d h l f = absurd (omega arith)
+action-stores (suc (suc zero)) n d h l f = absurd (omega arith)
+action-stores (suc (suc (suc zero))) n d h l f = refl
+action-stores (suc (suc (suc (suc zero)))) n d h l f = let z : _≡_ {A = ℕ} 0 1 = f .0 in absurd (omega arith)
+action-stores (suc (suc (suc (suc (suc zero))))) n d h l f = let z : _≡_ {A = ℕ} 0 1 = f .0 in absurd (omega arith)
+action-stores (suc (suc (suc (suc (suc (suc k)))))) n d h l f = absurd (omega arith)

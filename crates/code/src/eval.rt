@@ -37,7 +37,8 @@ fn is_at(places: &[u8; 16], n: u16) -> i32
     tests::truth(places[c] == (n & 255) as u8)
 }
 
-// One word of a guard or a proposition: it stores nothing.
+// One word of a guard or a proposition: it stores nothing, so of the kinds 2 and 3 it is 2, and past 5 an accepted plan has the operators' kind alone. A tree of
+// matches, three arms at most, since more would become a jump through a table.
 fn read(
     locations: &[u8; 16],
     ports: &[u8; 16],
@@ -55,22 +56,26 @@ fn read(
         × (length (now (stack .exit)) ≡ 8) ⌝ }
 {
     match kind {
-        0 => push(stack, m, number(n)),
-        1 => put(stack, m, sums::extend(peek(stack, m), n)),
-        2 => {
-            let i = n as usize;
-            push(stack, m, values[i])
-        }
-        3 => m,
-        4 => push(stack, m, is_at(locations, n)),
-        5 => push(stack, m, is_at(ports, n)),
-        6 => combine(stack, m, n),
-        7..=15 => m,
-        _ => m,
+        0..=5 => match kind {
+            0..=1 => match kind {
+                0 => push(stack, m, number(n)),
+                _ => put(stack, m, sums::extend(peek(stack, m), n)),
+            },
+            2..=3 => {
+                let i = n as usize;
+                push(stack, m, values[i])
+            }
+            _ => match kind {
+                4 => push(stack, m, is_at(locations, n)),
+                _ => push(stack, m, is_at(ports, n)),
+            },
+        },
+        _ => combine(stack, m, n),
     }
 }
 
-// One word of an action or a transfer: it looks at no location and at no last port.
+// One word of an action or a transfer: it looks at no location and at no last port, so of the kinds 3 to 5 it is 3. A
+// tree as above.
 fn step(values: &mut [i32; 64], stack: &mut [i32; 8], m: Top, kind: u16, n: u16) -> Top
     requires { ⌜ (n < 4096) × Fit 0 (instruction kind n) (m .depth) ⌝ }
     requires { ⌜ length (now stack) ≡ 8 ⌝ }
@@ -79,22 +84,24 @@ fn step(values: &mut [i32; 64], stack: &mut [i32; 8], m: Top, kind: u16, n: u16)
         × (length (now (stack .exit)) ≡ 8) ⌝ }
 {
     match kind {
-        0 => push(stack, m, number(n)),
-        1 => put(stack, m, sums::extend(peek(stack, m), n)),
-        2 => {
-            let i = n as usize;
-            push(stack, m, values[i])
-        }
-        3 => {
-            let v = n as usize;
-            values[v] = peek(stack, m);
-            pop(stack, m)
-        }
-        4 => m,
-        5 => m,
-        6 => combine(stack, m, n),
-        7..=15 => m,
-        _ => m,
+        0..=5 => match kind {
+            0..=1 => match kind {
+                0 => push(stack, m, number(n)),
+                _ => put(stack, m, sums::extend(peek(stack, m), n)),
+            },
+            _ => match kind {
+                2 => {
+                    let i = n as usize;
+                    push(stack, m, values[i])
+                }
+                _ => {
+                    let v = n as usize;
+                    values[v] = peek(stack, m);
+                    pop(stack, m)
+                }
+            },
+        },
+        _ => combine(stack, m, n),
     }
 }
 

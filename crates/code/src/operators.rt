@@ -47,41 +47,47 @@ fn at_least(a: i32, b: i32) -> i32
     tests::truth(tests::at_least(a, b))
 }
 
-// What operator n makes of the value below the top and the top.
+// What operator n, any but `not`, 6, makes of the value below the top and the top.
 fn operated(n: u16, left: i32, right: i32) -> i32
+    requires { ⌜ (n < 8) × (n ≡ 6 → ⊥) ⌝ }
     ensures { λ r. ⌜ r ≡ operate n left right ⌝ }
 {
     match n {
-        0 => sums::add(left, right),
-        1 => sums::subtract(left, right),
-        2 => equal(left, right),
-        3 => at_least(left, right),
-        4 => both(left, right),
-        5 => either(left, right),
-        6 => negated(right),
-        7 => implied(left, right),
-        _ => 0,
+        0..=1 => match n {
+            0 => sums::add(left, right),
+            _ => sums::subtract(left, right),
+        },
+        2..=3 => match n {
+            2 => equal(left, right),
+            _ => at_least(left, right),
+        },
+        _ => match n {
+            4 => both(left, right),
+            5 => either(left, right),
+            _ => implied(left, right),
+        },
     }
 }
 
-// The stack after operator n. `not`, 6, replaces the top; what lies below it may be no value then. n & 7 is n: the match then has no case left.
+// The stack after operator n. `not`, 6, replaces the top; what lies below it may be no value then.
 pub fn combine(stack: &[i32; 8], m: Top, n: u16) -> Top
     requires { ⌜ (n < 8) × (0 < m .depth) × (operatorPops n ≤ m .depth) × (m .depth ≤ 8) ⌝ }
     ensures { λ r. ⌜ held (now (stack .entry)) (r .depth) (r .value) ≡ combined n (held (now (stack .entry)) (m .depth) (m .value)) ⌝ }
 {
     let d = m.depth;
     let below = d - 1;
-    let left = stack[below];
     let right = m.value;
-    let value = operated(n & 7, left, right);
-    if n == 6 {
-        return Top {
+    match n {
+        6 => Top {
             depth: d,
-            value: value,
-        };
-    }
-    Top {
-        depth: below,
-        value: value,
+            value: negated(right),
+        },
+        _ => {
+            let left = stack[below];
+            Top {
+                depth: below,
+                value: operated(n, left, right),
+            }
+        }
     }
 }

@@ -144,11 +144,14 @@ pub fn store<'a>(
     requires { ⌜ (length (now image) ≡ imageLength) × Sized (now locations) (now ports) (now values) ⌝ }
     ensures { λ r. ⌜ now (image .exit) ≡ imageOf (now (plan .entry)) (lent (now (locations .entry)) (now (ports .entry)) (now (values .entry)) oracles) crossed ⌝ }
 {
+    let places = *locations;
+    let last = *ports;
+    let numbers = *values;
     put_head(plan, image, oracles);
     put_u64(image, MARKS, crossed);
-    put_bytes(image, LOCATIONS, locations);
-    put_bytes(image, LAST_PORTS, ports);
-    put_values(image, values);
+    put_bytes(image, LOCATIONS, &places);
+    put_bytes(image, LAST_PORTS, &last);
+    put_values(image, &numbers);
 }
 
 // Writes the marks of an image, eight bytes and no other.

@@ -14,7 +14,7 @@
 //   times N                  what the last step wrote stands N times in all
 //   chain AT N               the rank rows of N interactions, each below every one of a higher number
 //   length N                 the first N bytes are lent as the plan
-//   keep NAME                keeps the plan: NAME as a step takes it again. At most 24 plans of 4096 bytes, names of 8 letters
+//   keep NAME                keeps the plan: NAME as a step takes it again, of the length that it states. At most 24 plans of 4096 bytes, names of 8 letters
 // The moves of a list or a log:
 //   moves N ..               the entries, none where no number follows
 //   more N ..                further entries

@@ -1,10 +1,11 @@
-use mathlib.Core.Bool.{not, _&&_, _||_}
+use mathlib.Core.Path.{_≡_}
+use mathlib.Core.Bool.{_&&_, _||_}
+use Prim.Native.Nat.{ℕ, _≤_, _<_}
+use native.Mathlib.Omega.{arith}
 use borrow.Author.Needs.{needs}
 use Rattle.semantics.specs.Bytes.{implies}
 use Rattle.semantics.specs.Code.{operate}
 use Rattle.semantics.specs.Signed.{add, subtract, equalZ, atLeast, holds, truth}
-use Rattle.words.proofs.MatchRest.{past}
-use Rattle.code.proofs.OperatorsHeld.{operate-past}
 use Rattle.code.proofs.ReadBack.{back2}
 use Rattle.code.proofs.operators.operated.Statement.{statement}
 use Rattle.code.proofs.operators.operated.Tie as tie
@@ -27,62 +28,58 @@ both-requires c κs = search needs
 either-requires : tie.Need-either-requires
 either-requires c κs = search needs
 
-negated-requires : tie.Need-negated-requires
-negated-requires c κs = search needs
-
 implied-requires : tie.Need-implied-requires
 implied-requires c κs = search needs
 
 returns : tie.Need-returns
 unfolding operate
 returns c =
-    let s = c .before .before in
+    let s = c .before .before .before in
     rw (c .before .match .keys1) (back2 add _ _ _ (s .fits .left) (s .fits .right) (c .add .ok) (c .add .ensures))
 
 returns-2 : tie.Need-returns-2
 unfolding operate
 returns-2 c =
-    let s = c .before .before in
-    rw (c .before .match .keys2) (back2 subtract _ _ _ (s .fits .left) (s .fits .right) (c .subtract .ok) (c .subtract .ensures))
+    let s = c .before .before .before in
+    let e : s .args .n ≡ 1 = omega (arith, c .before .match .rest .1) in
+    rw e (back2 subtract _ _ _ (s .fits .left) (s .fits .right) (c .subtract .ok) (c .subtract .ensures))
 
 returns-3 : tie.Need-returns-3
 unfolding operate
 returns-3 c =
-    let s = c .before .before in
-    rw (c .before .match .keys3) (back2 (λ x y. truth (equalZ x y)) _ _ _ (s .fits .left) (s .fits .right) (c .equal .ok) (c .equal .ensures))
+    let s = c .before .before .before .before in
+    rw (c .before .match2 .keys1) (back2 (λ x y. truth (equalZ x y)) _ _ _ (s .fits .left) (s .fits .right) (c .equal .ok) (c .equal .ensures))
 
 returns-4 : tie.Need-returns-4
 unfolding operate
 returns-4 c =
-    let s = c .before .before in
-    rw (c .before .match .keys4) (back2 (λ x y. truth (atLeast x y)) _ _ _ (s .fits .left) (s .fits .right) (c .at-least .ok) (c .at-least .ensures))
+    let s = c .before .before .before .before in
+    let e : s .args .n ≡ 3 = omega (arith, c .before .match2 .rest .1) in
+    rw e (back2 (λ x y. truth (atLeast x y)) _ _ _ (s .fits .left) (s .fits .right) (c .at-least .ok) (c .at-least .ensures))
 
 returns-5 : tie.Need-returns-5
 unfolding operate
 returns-5 c =
-    let s = c .before .before in
-    rw (c .before .match .keys5) (back2 (λ x y. truth (holds x && holds y)) _ _ _ (s .fits .left) (s .fits .right) (c .both .ok) (c .both .ensures))
+    let s = c .before .before .before .before in
+    rw (c .before .match3 .keys1) (back2 (λ x y. truth (holds x && holds y)) _ _ _ (s .fits .left) (s .fits .right) (c .both .ok) (c .both .ensures))
 
 returns-6 : tie.Need-returns-6
 unfolding operate
 returns-6 c =
-    let s = c .before .before in
-    rw (c .before .match .keys6) (back2 (λ x y. truth (holds x || holds y)) _ _ _ (s .fits .left) (s .fits .right) (c .either .ok) (c .either .ensures))
+    let s = c .before .before .before .before in
+    rw (c .before .match3 .keys2) (back2 (λ x y. truth (holds x || holds y)) _ _ _ (s .fits .left) (s .fits .right) (c .either .ok) (c .either .ensures))
+
+-- of the operators from 4 on
+seven : (n : ℕ) → 4 ≤ n → n < 8 → (n ≡ 4 → ⊥) → (n ≡ 5 → ⊥) → (n ≡ 6 → ⊥) → n ≡ 7
+seven n l h e f g = omega (arith, e, f, g)
 
 returns-7 : tie.Need-returns-7
 unfolding operate
 returns-7 c =
-    let s = c .before .before in
-    rw (c .before .match .keys7) (back2 (λ x y. truth (not (holds y))) _ _ _ (s .fits .left) (s .fits .right) (c .negated .ok) (c .negated .ensures))
-
-returns-8 : tie.Need-returns-8
-unfolding operate
-returns-8 c =
-    let s = c .before .before in
-    rw (c .before .match .keys8) (back2 (λ x y. truth (implies (holds x) (holds y))) _ _ _ (s .fits .left) (s .fits .right) (c .implied .ok) (c .implied .ensures))
-
-returns-9 : tie.Need-returns-9
-returns-9 c = operate-past _ _ _ (past 8 _ (c .match .rest))
+    let k = c .before in
+    let s = k .before .before .before in
+    let e : s .args .n ≡ 7 = seven _ (k .before .if2 .left) (s .pre .0) (k .match3 .rest .0 .1) (k .match3 .rest .1) (s .pre .1) in
+    rw e (back2 (λ x y. truth (implies (holds x) (holds y))) _ _ _ (s .fits .left) (s .fits .right) (c .implied .ok) (c .implied .ensures))
 
 pub operated-spec : {M : Type 1} → statement M
 operated-spec =
@@ -94,7 +91,6 @@ operated-spec =
     at-least-requires
     both-requires
     either-requires
-    negated-requires
     implied-requires
     returns
     returns-2
@@ -102,6 +98,4 @@ operated-spec =
     returns-4
     returns-5
     returns-6
-    returns-7
-    returns-8
-    returns-9)
+    returns-7)
