@@ -1,3 +1,4 @@
+#![tactic(auto)]
 // Code words: the word split, the stack, the operators and the evaluator.
 pub mod eval;
 mod operators;

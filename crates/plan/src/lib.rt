@@ -1,3 +1,4 @@
+#![tactic(auto)]
 // The check of a plan: refusals 1 to 10, with 20 before 10, in order, of its header, its tables and its code.
 ghost use Rattle.std.specs.Prelude.{◌≡◌};
 ghost use Rattle.semantics.specs.Refusal.{refusal};

@@ -1,3 +1,4 @@
+#![tactic(auto)]
 // The calls that C programs make: include/yard.h. An answer is one number, kind * 65536 + number.
 ghost use Rattle.std.specs.Prelude.{◌≡◌};
 ghost use Rattle.semantics.specs.Calls.{packed, check, start, called, offered_bits};

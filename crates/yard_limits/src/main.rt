@@ -1,3 +1,4 @@
+#![tactic(auto)]
 // Runs the cases of standard input, and writes a line for each: its label, and what it gave. The cases are in crates/yard_limits/stdin. Their language:
 //
 // A line is a case, LABEL: STEP; STEP; .. It writes the label and what its last step gave; a line with no label writes nothing. A line that begins with # is a comment.

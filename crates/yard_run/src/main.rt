@@ -1,3 +1,4 @@
+#![tactic(auto)]
 // yard-run: reads a plan from standard input, starts a lane and settles at most six times, a line each. It writes to standard error exactly where
 // standard input could not be read or standard output not be written, since a program has no exit status of its own; the script makes one of it.
 
