@@ -1,13 +1,12 @@
 -- A plan that keeps 1, 2 and 3 is laid out: each section lies in the slice.
-use mathlib.Core.Path.{◌≡◌, refl, sym, ap, ◌∙◌}
-use Prim.Native.Nat.{ℕ, zero, suc, ◌+◌, ◌*◌, ◌≤◌, ◌<◌}
+use mathlib.Core.Path.{◌≡◌, refl, sym, ◌∙◌}
+use Prim.Native.Nat.{ℕ, ◌≤◌, ◌<◌}
 use native.Mathlib.Omega.{arith}
-use mathlib.Core.Bool.{Bool, true}
+use mathlib.Core.Bool.{true}
 use mathlib.Core.List.{◌++◌}
 use lib.ListN.{length}
 use lib.Dec.{ltb, eqb}
-use Rattle.semantics.specs.Bytes.{every}
-use Rattle.semantics.specs.Plan.{Plan, components, variables, transitions, interactions, propositions, max_oracles, oracles, oracle_states, states_before, code_words, letters, section, section_size, section_start}
+use Rattle.semantics.specs.Plan.{Plan, max_oracles, oracles, oracle_states, states_before, section, section_size, section_start}
 use Rattle.semantics.specs.Rules.{head_ok, state_count_ok, counts_ok, layout_ok, within, header_rules, table_rules, code_rules, plan_rules, plan_refusal}
 use Rattle.semantics.proofs.Basics.{bool_cases, each, leb-true, ltb-true, ltb-false, eqb-true, every-at}
 use Rattle.semantics.proofs.AcceptedPlan.{Counts, counts_of_lem}

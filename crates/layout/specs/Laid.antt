@@ -1,6 +1,6 @@
 -- What 1, 2 and 3 leave of a plan that they do not refuse: its counts are in range and its sections lie in the slice. Functions that read a plan
 -- after these three ask for this record and nothing else.
-use Rattle.std.specs.Prelude.{ℕ, ◌+◌, ◌*◌, ◌≤◌, length}
+use Rattle.std.specs.Prelude.{◌+◌, ◌*◌, ◌≤◌, length}
 use Rattle.semantics.specs.Plan.{Plan, max_components, max_variables, max_interactions, max_oracles, components, variables, transitions, interactions, propositions, oracles, states_before, code_words, letters, section}
 
 pub record Laid (p : Plan) : Type 0 where
