@@ -4,12 +4,8 @@ use native.Mathlib.Omega.{arith}
 use lib.IntN.{pos}
 use Rattle.semantics.specs.Signed.{holds}
 use Rattle.arith.proofs.Signed32.{same_bits}
-use Rattle.arith.proofs.tests.holds.Statement.{statement}
-use Rattle.arith.proofs.tests.holds.Tie as tie
+use Rattle.arith.proofs.tests.holds.Goals as goal
 
-returns : tie.Need-returns
+pub returns : goal.returns
 unfolding holds
 returns c = ap not (same_bits c.args.v (pos 0) c.ranges.v.sfits (omega arith))
-
-pub holds-spec : {M : Type 1} → statement M
-holds-spec = tie.close (tie.spec returns)
