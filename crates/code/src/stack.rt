@@ -4,7 +4,7 @@ ghost use Rattle.semantics.specs.Code.{top};
 ghost use Rattle.code.specs.Held.{held};
 
 // How deep the stack is, and its top. The values below the top lie in the lent array.
-#[derive(Drop)]
+#[derive(Clone, Copy)]
 pub struct Top {
     pub depth: usize,
     pub value: i32,

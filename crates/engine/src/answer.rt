@@ -4,7 +4,7 @@ ghost use Rattle.semantics.specs.Calls.{packed};
 ghost use Rattle.engine.specs.Answers.{answer_of};
 
 // The interaction for a committed or cancelled move, the number for a refusal, the cause for a log with a wrong entry.
-#[derive(Drop)]
+#[derive(Clone, Copy)]
 pub enum Answer {
     Accepted,
     Committed(u8),
@@ -16,7 +16,7 @@ pub enum Answer {
 }
 
 // An answer and the 64 bits beside it, which a second call returns: the moves on offer, or the index of a wrong entry; 0 where there are none.
-#[derive(Drop)]
+#[derive(Clone, Copy)]
 pub struct Reply {
     pub answer: Answer,
     pub bits: u64,

@@ -83,7 +83,7 @@ pub fn leads_above<'a>(
 
 // What settling still seeks: the moves not known to be bad, those of them that may yet be the one, the steps of the climb that are still to be judged, and the lowest
 // move that is known to be allowed; the number of interactions where none is.
-#[derive(Drop)]
+#[derive(Clone, Copy)]
 pub struct Sought {
     pub open: u64,
     pub left: u64,
@@ -139,7 +139,7 @@ fn narrowed(plan: &[u8], s: Sought, top: Climbed, good: bool) -> Sought
 }
 
 // A move and the oracles' states after it; where no move was found, the number of interactions and the states as they were.
-#[derive(Drop)]
+#[derive(Clone, Copy)]
 pub struct Found {
     pub number: usize,
     pub oracles: [u8; 4],

@@ -37,7 +37,7 @@ pub fn standing_mask(plan: &[u8], moves: u64) -> u64
 }
 
 // The interaction that a climb ends at, and the numbers that it stepped on, past ones too.
-#[derive(Drop)]
+#[derive(Clone, Copy)]
 pub struct Climbed {
     pub number: usize,
     pub path: u64,

@@ -9,7 +9,7 @@ pub const NOBODY: u8 = 8;
 
 // A lane's record: 4 bytes, no padding, every content valid. held: 0 is free, any other number held; wait: turns waited.
 #[repr(C)]
-#[derive(Drop)]
+#[derive(Clone, Copy)]
 pub struct Lane {
     pub number: u8,
     pub held: u8,
@@ -17,7 +17,7 @@ pub struct Lane {
 }
 
 // What a reading of the roster gives: whether the numbers run from 0, and the free lane that waited longest, NOBODY where there is none.
-#[derive(Drop)]
+#[derive(Clone, Copy)]
 pub struct Scan {
     pub counted: bool,
     pub lane: u8,

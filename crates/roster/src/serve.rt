@@ -18,7 +18,7 @@ const BAD_ROSTER: u32 = 5 * 65536 + 23;
 const IDLE: u32 = 7 * 65536;
 
 // What a turn answers, and whose it was: NOBODY where it was no lane's.
-#[derive(Drop)]
+#[derive(Clone, Copy)]
 pub struct Turn {
     pub answer: u32,
     pub lane: u8,

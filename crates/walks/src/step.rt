@@ -17,7 +17,7 @@ use oracle::row;
 use words::bits;
 
 // Whether the move is made; where not the cause, 0 where its own verdict is too low; where it is, the oracles' states after it.
-#[derive(Drop)]
+#[derive(Clone, Copy)]
 pub struct Stepped {
     pub made: bool,
     pub cause: u8,

@@ -10,7 +10,7 @@ use crate::step;
 use words::bytes::field;
 
 // The index of the first entry that does not pass, with its cause, or the number of entries and 0; the oracles' states after the entries before it.
-#[derive(Drop)]
+#[derive(Clone, Copy)]
 pub struct Walked {
     pub index: usize,
     pub cause: u8,
