@@ -1,0 +1,76 @@
+use mathlib.Core.Path.{◌≡◌, ap, sym, subst, ◌∙◌}
+use mathlib.Core.Bool.{false}
+use mathlib.Core.List.{List}
+use Prim.Native.Nat.{ℕ, ◌+◌, ◌<◌}
+use native.Mathlib.Omega.{arith}
+use lib.ListN.{length}
+use Rattle.semantics.specs.Bytes.{byte}
+use Rattle.semantics.specs.Plan.{transitions, component_of, port_of, port_in}
+use Rattle.semantics.specs.Code.{State, site}
+use Rattle.semantics.proofs.Basics.{absurd_bool, eq-eqb}
+use Rattle.layout.proofs.Sections.{laid_accepted}
+use Rattle.choices.proofs.ChoiceLaws.{FoundIn, found_none, found_all, found_step, found_skip}
+use Rattle.choices.proofs.choice.choose_in.Goals as goal
+use Rattle.choices.proofs.choice.choose_in.Goals.{then-is_named, else-is_named}
+
+pub interaction_at-row-requires : goal.interaction_at-row-requires
+interaction_at-row-requires c = (laid_accepted _ c.requires.plan_value, c.requires.i_bound.0)
+
+pub transitions-count-requires : goal.transitions-count-requires
+transitions-count-requires c = (laid_accepted _ c.requires.plan_value).long
+
+pub loop-t-init : goal.loop-t-init
+loop-t-init c =
+    let state : State =
+    site c.args.locations.now c.args.ports.now c.args.values.now in (
+      omega arith,
+      c.transitions-count.ensures.0,
+      c.interaction_at-row.ensures.1,
+      found_none c.args.plan.now state c.args.i _ c.requires.plan_value c.requires.i_bound.0 c.requires.i_bound.1,
+    )
+
+pub is_named-requires : goal.is_named-requires
+is_named-requires c =
+    let known : c.loop-t.t < transitions c.args.plan.now =
+    omega arith in
+    record { plan_value = c.requires.plan_value; row_in_bounds = (c.loop-t.invariant.2, known) }
+
+pub consider-requires : goal.consider-requires
+consider-requires c =
+    let known : c.loop-t.t < transitions c.args.plan.now =
+    omega arith in
+    record { plan_value = c.requires.plan_value; t_bound = (known, c.loop-t.invariant.3.long) }
+
+pub loop-t-preserved : goal.loop-t-preserved
+loop-t-preserved c =
+    let state : State =
+    site c.args.locations.now c.args.ports.now c.args.values.now in
+    let known : c.loop-t.t < transitions c.args.plan.now =
+    omega arith in
+    let other : c.is_named.result ≡ false
+    → let p = c.args.plan.now in
+    port_in p c.args.i (component_of p c.loop-t.t) ≡ port_of p c.loop-t.t → ⊥ =
+    λ e q. let p = c.args.plan.now in
+    let row = c.interaction_at-row.ensures.0 in
+    absurd_bool (c.is_named.ensures ∙ eq-eqb _ _ (ap (λ (x : ℕ). byte p (x + component_of p c.loop-t.t)) row ∙ q)) e in
+    let p = c.args.plan.now in
+    let i = c.args.i in
+    let l = known in (
+      omega arith,
+      c.loop-t.invariant.1,
+      c.loop-t.invariant.2,
+      elim c.if-is_named.branch [
+        | then-is_named w ↦
+            found_step p state i c.loop-t.out c.loop-t.t l c.loop-t.invariant.3 c.if-is_named.out c.requires.plan_value c.requires.i_bound.0
+            (w.out-is ∙ w.consider.ensures.0) (ap (λ (x : List ℕ). length x) w.out-is ∙ w.consider.ensures.1)
+        | else-is_named w ↦
+            subst (λ (x : List ℕ). FoundIn p state i x (c.loop-t.t + 1)) (sym w.out-is)
+            (found_skip p state i c.loop-t.out c.loop-t.t l c.loop-t.invariant.3 (other w.if-is_named.false))
+      ],
+    )
+
+pub returns : goal.returns
+returns c =
+    let state : State =
+    site c.args.locations.now c.args.ports.now c.args.values.now in
+    found_all c.args.plan.now state c.args.i c.loop-t.out c.loop-t.t (omega arith) c.loop-t.invariant.3
