@@ -1,11 +1,10 @@
 -- The first broken rule, when the plan's own rules come first: what the reading of a lane and a start answer.
-use mathlib.Core.Path.{◌≡◌, refl, sym, ap, ◌∙◌}
+use mathlib.Core.Path.{◌≡◌, refl, sym, ◌∙◌}
 use Prim.Native.Nat.{ℕ, zero, suc}
 use native.Mathlib.Omega.{arith}
 use mathlib.Core.Bool.{true, false}
 use mathlib.Core.List.{List, [], ◌∷◌, ◌++◌}
 use lib.ListN.{length}
-use lib.Dec.{eqb}
 use Rattle.semantics.specs.Plan.{Plan}
 use Rattle.semantics.specs.Refusal.{Rule, rule, unless, refusal}
 use Rattle.semantics.specs.Rules.{plan_rules, plan_refusal}
