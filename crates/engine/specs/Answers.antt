@@ -15,5 +15,5 @@ answer_of (Refused n) = calls.refused n
 answer_of (Wrong n) = wrong n 0
 
 -- The answer of an offered call or of the check of a log: the enum's, with the bits.
-abbrev pub replyOf : Reply → calls.Answer
-replyOf r = record { kind = (answer_of r.answer).kind; number = (answer_of r.answer).number; bits = r.bits }
+abbrev pub reply_of : Reply → calls.Answer
+reply_of r = record { kind = (answer_of r.answer).kind; number = (answer_of r.answer).number; bits = r.bits }

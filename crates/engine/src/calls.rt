@@ -4,7 +4,7 @@ ghost use Rattle.std.specs.Prelude.{◌≡◌, length};
 ghost use Rattle.semantics.specs.Rules.{plan_refusal};
 ghost use Rattle.semantics.specs.Image.{image_length};
 ghost use Rattle.semantics.specs.Calls.{packed, start, called, Call.offered, Call.try, Call.settle};
-ghost use Rattle.engine.specs.Answers.{answer_of, replyOf};
+ghost use Rattle.engine.specs.Answers.{answer_of, reply_of};
 
 use crate::answer::{Answer, Reply};
 use crate::reading;
@@ -50,14 +50,14 @@ pub fn start_from(plan: &[u8], image: &mut [u8], checked: u8) -> Answer
 
 // The moves on offer: enabled, not marked, and with none of these above.
 pub fn offered(plan: &[u8], image: &[u8]) -> Reply
-    ensures { replyOf result ≡ (called plan.now image.now offered).answer }
+    ensures { reply_of result ≡ (called plan.now image.now offered).answer }
 {
     offered_from(plan, image, plan::check(plan))
 }
 
 pub fn offered_from(plan: &[u8], image: &[u8], checked: u8) -> Reply
     requires { checked ≡ plan_refusal plan.now }
-    ensures { replyOf result ≡ (called plan.now image.now offered).answer }
+    ensures { reply_of result ≡ (called plan.now image.now offered).answer }
 {
     let lane = reading::seen(plan, image, checked);
     let refusal = lane.refusal;

@@ -2,7 +2,7 @@
 ghost use Rattle.std.specs.Prelude.{◌≡◌};
 ghost use Rattle.semantics.specs.Calls.{refused};
 ghost use Rattle.semantics.specs.Log.{check_log};
-ghost use Rattle.engine.specs.Answers.{replyOf};
+ghost use Rattle.engine.specs.Answers.{reply_of};
 
 use crate::walk;
 use engine::answer::{Answer, Reply};
@@ -11,7 +11,7 @@ use oracle::row;
 
 // A log of which no entry is read: the refusal.
 fn turned_away(refusal: u8) -> Reply
-    ensures { replyOf result ≡ refused refusal }
+    ensures { reply_of result ≡ refused refusal }
 {
     Reply {
         answer: Answer::Refused(refusal),
@@ -21,7 +21,7 @@ fn turned_away(refusal: u8) -> Reply
 
 // Whether a log is a run from the starting state: the plan's refusals, 21 and 15, then the entries.
 pub fn check_log(plan: &[u8], log: &[u8]) -> Reply
-    ensures { replyOf result ≡ check_log plan.now log.now }
+    ensures { reply_of result ≡ check_log plan.now log.now }
 {
     let checked = plan::check(plan);
     if checked != 0 {
