@@ -1,7 +1,6 @@
 use Rattle.semantics.specs.Calls.{list}
 use Rattle.engine.specs.Answers.{answer_of}
 use Rattle.engine.proofs.CallLaws.{parts, called-refused}
-use borrow.Author.Rules.{rules}
 use Rattle.walks.proofs.list.hand_in_from.Goals as goal
 
 pub returns-then-image-ne-LENGTH : goal.returns-then-image-ne-LENGTH

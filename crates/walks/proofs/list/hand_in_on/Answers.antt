@@ -12,7 +12,7 @@ use Rattle.semantics.specs.Move.{Configuration, replay}
 use Rattle.semantics.specs.Load.{list_rules, stops_at, completes}
 use Rattle.semantics.specs.Image.{Image, image}
 use Rattle.semantics.specs.Calls.{committed, cancelled, list}
-use Rattle.semantics.proofs.Basics.{not_yes, not_no, and_both, eqb-true}
+use Rattle.semantics.proofs.Basics.{and_both, eqb-true}
 use Rattle.semantics.proofs.LogEntries.{entries_long}
 use Rattle.semantics.proofs.LawfulImage.{LawfulImage}
 use Rattle.semantics.proofs.Loads.{stops_within}

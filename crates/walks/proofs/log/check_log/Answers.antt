@@ -8,14 +8,12 @@ use Rattle.semantics.specs.Rules.{plan_refusal}
 use Rattle.semantics.specs.Move.{Configuration, good, initial}
 use Rattle.semantics.specs.Bytes.{entries}
 use Rattle.semantics.specs.Log.{Log, wrong, walked, check_log}
-use Rattle.semantics.proofs.Basics.{not_yes, not_no}
 use Rattle.semantics.proofs.LogEntries.{entries_long}
 use Rattle.lane.specs.Runs.{configuration_in}
 use Rattle.moves.proofs.SearchLaws.{ends_good}
 use Rattle.engine.specs.Answers.{answer_of}
 use Rattle.walks.proofs.LogLaws.{log_plan, log_21, log_15, log-walked}
 use Rattle.walks.proofs.WalkLaws.{walked_whole, walked_short}
-use borrow.Author.Rules.{rules}
 use Rattle.walks.proofs.log.check_log.Goals as goal
 
 pub returns-then-checked-ne0 : goal.returns-then-checked-ne0
@@ -96,6 +94,6 @@ returns c =
     let checked : check_log plan log ≡ walked plan (configuration_in c.initial-run.result) 0 (entries log) =
     log-walked plan log accepted even (sym good_is ∙ c.if-not-good.false)
     ∙ ap (λ (x : Configuration). walked plan x 0 (entries log)) (sym made) in
-    let ((index, cause, _), _) = c.walk-made.ensures in
+    let (index, cause, _) = c.walk-made.ensures.index_value in
     ap₂ wrong cause (index ∙ sym (zero-add _))
     ∙ sym (checked ∙ walked_short plan _ 0 (entries log) (λ h. c.if-index-log.false (index ∙ h ∙ entries_long log)))

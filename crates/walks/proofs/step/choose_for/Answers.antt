@@ -3,7 +3,6 @@ use mathlib.Core.Bool.{not}
 use Rattle.semantics.proofs.Basics.{absurd_bool, eq-eqb, ne_eqb}
 use Rattle.layout.proofs.Sections.{laid_accepted}
 use Rattle.choices.proofs.ChoiceLaws.{table_in}
-use borrow.Author.Rules.{rules}
 use Rattle.walks.proofs.step.choose_for.Goals as goal
 
 pub rank_row-requires : goal.rank_row-requires

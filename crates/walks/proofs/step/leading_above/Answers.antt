@@ -1,7 +1,6 @@
 use mathlib.Core.Path.{sym, ◌∙◌}
-use Rattle.semantics.proofs.Basics.{not_yes, not_no, eqb-true}
+use Rattle.semantics.proofs.Basics.{not_no, eqb-true}
 use Rattle.moves.proofs.SearchLaws.{none_above}
-use borrow.Author.Rules.{rules}
 use Rattle.walks.proofs.step.leading_above.Goals as goal
 
 pub returns-then-not-ranked : goal.returns-then-not-ranked

@@ -6,13 +6,12 @@ use Rattle.semantics.specs.Bytes.{bit, mask}
 use Rattle.semantics.specs.Plan.{Plan, interactions}
 use Rattle.semantics.specs.Move.{Configuration, enabled, reaches}
 use Rattle.semantics.specs.Log.{cause_from}
-use Rattle.semantics.proofs.Basics.{absurd_bool, not_yes, not_no}
+use Rattle.semantics.proofs.Basics.{absurd_bool}
 use Rattle.semantics.proofs.LogWalk.{cause_high, cause_disabled, cause_above, cause-none, caused_stops, uncaused_passes}
 use Rattle.layout.proofs.Sections.{laid_accepted}
 use Rattle.lane.specs.Runs.{lent}
 use Rattle.choices.proofs.ChoiceLaws.{unset_none}
 use Rattle.walks.proofs.StepLaws.{own_alone, own_enabled}
-use borrow.Author.Rules.{rules}
 use Rattle.walks.proofs.step.step.Goals as goal
 
 pub interactions-requires : goal.interactions-requires
@@ -131,7 +130,7 @@ after-states-requires c =
     record { plan_value = c.requires.plan_value; i_bound = (inside, c.choose_for-ranked.ensures.chosen_in, enabled_is); oracles_value = c.requires.oracles_value }
 
 pub reaches-requires : goal.reaches-requires
-reaches-requires c = search record { plan_value = c.requires; states_value = c.after-states.ensures }
+reaches-requires c = record { plan_value = c.requires.plan_value; states_value = c.after-states.ensures.result_after.1 }
 
 pub returns : goal.returns
 returns c =
@@ -153,4 +152,4 @@ returns c =
     cause-none plan c.args.v at c.args.i inside enabled_is (sym c.leading_above.ensures ∙ c.if-leading_above.false) in
     let v = c.args.v in
     let x = none in
-    let m = c.after-states.ensures in record { made_value = (c.reaches.ensures ∙ ap (λ (d : Configuration). reaches plan v d.oracles) m.1.0 ∙ sym (uncaused_passes plan v at c.args.i x), sym x); oracles_after = λ y. (m.1.0, m.1.1, m.0) }
+    let m = c.after-states.ensures.result_after in record { made_value = (c.reaches.ensures ∙ ap (λ (d : Configuration). reaches plan v d.oracles) m.0 ∙ sym (uncaused_passes plan v at c.args.i x), sym x); oracles_after = λ y. (m.0, m.1, c.after-states.ensures.sized) }

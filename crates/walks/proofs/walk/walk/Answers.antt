@@ -1,19 +1,17 @@
 use mathlib.Core.Path.{◌≡◌, sym, ap, subst, ◌∙◌}
-use mathlib.Core.Bool.{true}
-use Prim.Native.Nat.{ℕ, suc, ◌*◌, ◌/◌, ◌-◌, ◌≤◌, ◌<◌}
+use Prim.Native.Nat.{ℕ, suc, ◌*◌, ◌/◌, ◌<◌}
 use native.Mathlib.Numerals.{add-one}
 use native.Mathlib.Omega.{arith}
 use mathlib.Core.List.{List}
 use lib.ListN.{length}
 use Rattle.semantics.specs.Bytes.{u16}
 use Rattle.semantics.specs.Plan.{Plan}
-use Rattle.semantics.specs.Move.{Configuration, after, oracles_in_range}
+use Rattle.semantics.specs.Move.{Configuration, after}
 use Rattle.semantics.specs.Log.{cause_from, passes}
 use Rattle.semantics.proofs.Basics.{not_yes, not_no}
 use Rattle.semantics.proofs.LogEntries.{entries_long}
-use Rattle.lane.specs.Runs.{lent, Sized}
+use Rattle.lane.specs.Runs.{lent}
 use Rattle.walks.proofs.WalkLaws.{At, at-start, at_next, at-stop, at_end}
-use borrow.Author.Rules.{rules}
 use Rattle.walks.proofs.walk.walk.Goals as goal
 
 pub loop-k-init : goal.loop-k-init
@@ -40,7 +38,7 @@ returns-then-not-next c =
     let made-is : c.step-next.result.made ≡ passes plan v at entry =
     c.step-next.ensures.made_value.0 ∙ ap (passes plan v at) read in
     let here = inside in
-    let (index, cause) = at-stop plan v first moves at c.loop-k.k c.loop-k.invariant.1 here (sym made-is ∙ c.if-not-next.true) in record { index_value = (index, c.step-next.ensures.made_value.1 ∙ ap (cause_from plan v at) read ∙ cause, c.loop-k.invariant.2); oracles_after = λ e. absurd (omega (arith, here, e, entries_long moves)) }
+    let (index, cause) = at-stop plan v first moves at c.loop-k.k c.loop-k.invariant.1 here (sym made-is ∙ not_yes _ c.if-not-next.true) in record { index_value = (index, c.step-next.ensures.made_value.1 ∙ ap (cause_from plan v at) read ∙ cause, c.loop-k.invariant.2); oracles_after = λ e. absurd (omega (arith, here, e, entries_long moves)) }
 
 pub loop-k-preserved : goal.loop-k-preserved
 loop-k-preserved c =
@@ -64,9 +62,9 @@ loop-k-preserved c =
     c.step-next.ensures.made_value.0 ∙ ap (passes plan v at) read in
     let p = plan in
     let k = c.loop-k.k in
-    let made = c.if-not-next.false in
+    let made = not_no _ c.if-not-next.false in
     let m = c.step-next.ensures.oracles_after made in
-    let next : Configuration = lent c.step-next.new.1.0 c.step-next.new.1.1.0 c.step-next.new.1.1.1.0 c.step-next.result.oracles in
+    let next : Configuration = lent c.step-next.new.locations c.step-next.new.ports c.step-next.new.values c.step-next.result.oracles in
     let there : next ≡ after p at entry = m.0 ∙ ap (after p at) read in
     let on : At p v first moves (after p at entry) (suc k)
     = at_next p v first moves at k c.loop-k.invariant.1 inside (sym made-is ∙ made) in (

@@ -1,19 +1,10 @@
-use mathlib.Core.Path.{◌≡◌, sym, ap, subst, ◌∙◌}
+use mathlib.Core.Path.{◌≡◌}
 use mathlib.Core.Bool.{true}
-use Prim.Native.Nat.{ℕ, suc, ◌*◌, ◌/◌, ◌-◌, ◌≤◌, ◌<◌}
-use native.Mathlib.Numerals.{add-one}
-use native.Mathlib.Omega.{arith}
-use mathlib.Core.List.{List}
+use Prim.Native.Nat.{◌/◌, ◌-◌, ◌≤◌}
 use lib.ListN.{length}
-use Rattle.semantics.specs.Bytes.{u16}
-use Rattle.semantics.specs.Plan.{Plan}
-use Rattle.semantics.specs.Move.{Configuration, after, oracles_in_range}
-use Rattle.semantics.specs.Log.{cause_from, passes}
-use Rattle.semantics.proofs.Basics.{not_yes, not_no}
-use Rattle.semantics.proofs.LogEntries.{entries_long}
+use Rattle.semantics.specs.Move.{oracles_in_range}
 use Rattle.lane.specs.Runs.{lent, Sized}
-use Rattle.walks.proofs.WalkLaws.{At, at-start, at_next, at-stop, at_end}
-use borrow.Author.Rules.{rules}
+use Rattle.walks.proofs.WalkLaws.{At}
 use Rattle.walks.proofs.walk.walk.Given as goal
 
 -- where the walk is
