@@ -13,7 +13,7 @@ use Rattle.semantics.specs.Image.{Image, image_length}
 use Rattle.semantics.specs.Calls as calls
 use Rattle.semantics.specs.Calls.{Answer, outcome, Call, Call.settle, called, called_all}
 use Rattle.semantics.specs.Book.{blank, told}
-use Rattle.semantics.proofs.Basics.{bool_cases, and_both, not_yes, each, eqb-true, eq-eqb, eqb-false, ltb-true, ltb-false}
+use Rattle.semantics.proofs.Basics.{bool_cases, and_both, not_yes, eqb-true, eq-eqb, eqb-false, ltb-true, ltb-false}
 use Rattle.semantics.proofs.Lengths.{called-length, start-length, unsized_unchanged, unsized_unstarted}
 use Rattle.semantics.proofs.Demand3.{Starts, calls-told}
 use Rattle.roster.specs.declared.record.Lane.{Lane}

@@ -15,7 +15,7 @@ use Rattle.semantics.proofs.Basics.{bool_cases, and_both, both_and, neither, eac
 use Rattle.semantics.proofs.Counting.{count_le, no_more, fewer}
 use Rattle.roster.specs.declared.record.Lane.{Lane}
 use Rattle.roster.specs.Roster.{lane_at, free, wait_of, chosen, longer, waited}
-use Rattle.roster.specs.Turn.{turn_rules, served, Dispatched, given}
+use Rattle.roster.specs.Turn.{turn_rules, Dispatched, given}
 use Rattle.roster.specs.Turns.{Lent, turn_of, unrefused, turns_taken, stays_free, names, served_in}
 use Rattle.roster.proofs.Choice.{at_map, Best, chosen-free}
 use Rattle.roster.proofs.Dispatch.{Manned, turn_manned, dispatch-given}

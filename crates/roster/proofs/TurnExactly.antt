@@ -9,7 +9,7 @@ use mathlib.Core.Bool.{Bool, true, false, true≢false, cond}
 use mathlib.Core.List.{List, [], ◌∷◌, map}
 use lib.Dec.{leb, ltb, eqb}
 use lib.ListN.{length}
-use Rattle.semantics.specs.Bytes.{every, lowest}
+use Rattle.semantics.specs.Bytes.{every}
 use Rattle.semantics.specs.Plan.{Plan}
 use Rattle.semantics.specs.Refusal.{rule, refusal}
 use Rattle.semantics.specs.Rules.{plan_rules}
