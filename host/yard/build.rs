@@ -1,4 +1,4 @@
-// Links libyard.a: the one in $YARD_LIB_DIR, else the one that `rt staticlib yard` makes in this repository.
+// Links libyard.a: the one in $YARD_LIB_DIR, else the one that tools/library makes in this repository.
 use std::{env, path::Path};
 
 fn main() {

@@ -49,6 +49,8 @@ use memory::NOWHERE;
 use plans::{keep, plan_step, take};
 use reading::{packed, parse, seek};
 use says::{say, say_part};
+use std::io;
+use std::io::Read;
 
 // The lent memory: the plan, then from MOVES on the moves, and from KEPT on the plans that are kept.
 const MOVES: usize = 32768;
@@ -63,7 +65,7 @@ const ROSTER: usize = 9 * 312;
 const BEFORE: usize = ROSTER + 36;
 
 // The longest text.
-const TEXT: usize = 131072;
+const TEXT: u64 = 131072;
 
 // Memory for each of the two; what is lent besides; the numbers of a step.
 type Memory = [u8; KEPT + 24 * KEPT_SIZE];
@@ -192,26 +194,34 @@ fn run_steps(
 }
 
 // The line of a case: its label, and what its last step gave.
-fn tell(text: &[u8], from: usize, to: usize, images: &Memory, s: &State) {
-    say_part(text, from, to);
-    io::write_all(1, b": ");
+fn tell(
+    rt: &impl Print,
+    text: &[u8],
+    from: usize,
+    to: usize,
+    images: &Memory,
+    s: &State,
+) -> io::Result<()> {
+    say_part(rt, text, from, to)?;
+    rt.write_all(b": ")?;
     if s[state::KIND] > state::BROKEN {
-        say(s[state::KIND], s[state::VALUE], images, s[state::COUNT]);
+        say(rt, s[state::KIND], s[state::VALUE], images, s[state::COUNT])?;
     } else {
-        io::write_all(1, b"cannot be read");
+        rt.write_all(b"cannot be read")?;
     }
-    io::write_all(1, b"\n");
+    rt.write_all(b"\n")
 }
 
 // One line of the text that is no comment.
 fn run_line(
+    rt: &impl Print,
     text: &[u8],
     from: usize,
     to: usize,
     lent: &mut Memory,
     images: &mut Memory,
     s: &mut State,
-) {
+) -> io::Result<()> {
     s[state::KIND] = state::NOTHING;
     s[state::SIZE] = NOWHERE;
     let colon = seek(text, from, to, b':', true);
@@ -221,38 +231,47 @@ fn run_line(
     }
     run_steps(text, body, to, lent, images, s);
     if (colon < to) | (s[state::KIND] == state::BROKEN) {
-        tell(text, from, colon, images, s);
+        tell(rt, text, from, colon, images, s)?;
     }
+    Ok(())
 }
 
 // All lines of the text.
-fn run(text: &[u8], lent: &mut Memory, images: &mut Memory, s: &mut State) {
+fn run(
+    rt: &impl Print,
+    text: &[u8],
+    lent: &mut Memory,
+    images: &mut Memory,
+    s: &mut State,
+) -> io::Result<()> {
     let mut at = 0;
     while at < text.len() {
         let end = seek(text, at, text.len(), b'\n', true);
         if text[at] != b'#' {
-            run_line(text, at, end, lent, images, s);
+            run_line(rt, text, at, end, lent, images, s)?;
         }
         if end < at {
-            return;
+            return Ok(());
         }
         if end >= text.len() {
-            return;
+            return Ok(());
         }
         at = end + 1;
     }
+    Ok(())
 }
 
-fn main() {
-    let mut text = [0u8; TEXT];
+fn main(rt: HostRuntime) -> io::Result<()> {
+    let mut text = Vec::new(rt.alloc());
     let mut lent = [0u8; KEPT + 24 * KEPT_SIZE];
     let mut images = [0u8; KEPT + 24 * KEPT_SIZE];
     let mut s = [0usize; state::END];
     s[state::MOVES_END] = MOVES;
     name_steps(&mut s);
-    let len = io::read_full(0, &mut text);
-    run(&text[..len], &mut lent, &mut images, &mut s);
-    if len == TEXT {
-        io::write_all(1, b"the cases are longer than the memory for them\n");
+    rt.reader().take(TEXT).read_to_end(&mut text)?;
+    run(&rt, &text, &mut lent, &mut images, &mut s)?;
+    if text.len() as u64 == TEXT {
+        rt.write_all(b"the cases are longer than the memory for them\n")?;
     }
+    Ok(())
 }

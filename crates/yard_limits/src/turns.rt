@@ -16,7 +16,7 @@ pub(super) struct Outcome {
     pub lanes: Lanes,
 }
 
-// A turn of the first count lanes. Alone in this program it lends a slice of records, so its proof is by hand.
+// A turn of the first count lanes.
 fn turned(plan: &[u8], lanes: Lanes, count: usize, images: &mut [u8]) -> Outcome
     requires { count ≤ 9 }
 {

@@ -1,76 +1,76 @@
 #![tactic(auto)]
-// yard-run: reads a plan from standard input, starts a lane and settles at most six times, a line each. It writes to standard error exactly where
-// standard input could not be read or standard output not be written, since a program has no exit status of its own; the script makes one of it.
+// yard-run: reads a plan from standard input, starts a lane and settles at most six times, a line each. Where standard input could not be read or
+// standard output not be written it says so on standard error, and its exit status is 1.
+use std::io;
+use std::io::Read;
+use std::process::ExitCode;
 
 // One byte more than the longest lawful plan: a longer input meets the same number as the whole would.
-const MOST: usize = 16129;
+const MOST: u64 = 16129;
 
-// A word and a number on a line. Says whether it was written.
-fn numbered(word: &[u8], n: u32) -> bool {
-    if !io::write_all(1, word) {
-        return false;
-    }
-    if !io::print_decimal(1, n as u64) {
-        return false;
-    }
-    io::write_all(1, b"\n")
+// A word and a number on a line.
+fn numbered(rt: &impl Print, word: &[u8], n: u32) -> io::Result<()> {
+    rt.write_all(word)?;
+    rt.print(n)?;
+    rt.write_all(b"\n")
 }
 
 // Writes the line of a settling's answer.
-fn told(answer: u32) -> bool {
+fn told(rt: &impl Print, answer: u32) -> io::Result<()> {
     let kind = answer / 65536;
     let number = answer % 65536;
     if kind == 1 {
-        return numbered(b"move ", number);
+        return numbered(rt, b"move ", number);
     }
     if kind == 3 {
-        return io::write_all(1, b"stalled\n");
+        return rt.write_all(b"stalled\n");
     }
     if kind == 4 {
-        return io::write_all(1, b"penned\n");
+        return rt.write_all(b"penned\n");
     }
-    numbered(b"refused ", number)
+    numbered(rt, b"refused ", number)
 }
 
-// Settles until a line is no move, six times at most. Says whether every line was written.
-fn settles(plan: &[u8], image: &mut [u8; 312]) -> bool {
+// Settles until a line is no move, six times at most.
+fn settles(rt: &impl Print, plan: &[u8], image: &mut [u8; 312]) -> io::Result<()> {
     let mut left: usize = 6;
     while left > 0 {
         let answer = yard::yard_settle(plan, image);
-        if !told(answer) {
-            return false;
-        }
+        told(rt, answer)?;
         if answer / 65536 != 1 {
-            return true;
+            return Ok(());
         }
         left = left - 1;
     }
-    true
+    Ok(())
 }
 
-fn run(plan: &[u8]) -> bool {
+fn run(rt: &impl Print, plan: &[u8]) -> io::Result<()> {
     let mut image = [0u8; 312];
     let answer = yard::yard_start(plan, &mut image);
     if answer != 0 {
-        return numbered(b"refused ", answer % 65536);
+        return numbered(rt, b"refused ", answer % 65536);
     }
-    settles(plan, &mut image)
+    settles(rt, plan, &mut image)
 }
 
-// A read of no bytes says whether standard input can be read. The kit's read_full does not tell a read that fails later from the end of the input.
-fn readable() -> bool {
-    let mut byte = [0u8; 1];
-    libc::read(0, &mut byte[..0]) >= 0
+// Reads the plan from standard input. Says whether it could be read.
+fn readable(rt: &impl Input, plan: &mut Vec<u8>) -> bool {
+    rt.reader().take(MOST).read_to_end(plan).is_ok()
 }
 
-fn main() {
-    if !readable() {
-        io::write_all(2, b"yard-run: standard input cannot be read\n");
-        return;
+fn failed(rt: &impl Eprint, why: &str) -> ExitCode {
+    let _ = eprintln!(rt; "yard-run: {why}");
+    ExitCode::FAILURE
+}
+
+fn main(rt: HostRuntime) -> ExitCode {
+    let mut plan = Vec::new(rt.alloc());
+    if !readable(&rt, &mut plan) {
+        return failed(&rt, "standard input cannot be read");
     }
-    let mut buf = [0u8; MOST];
-    let len = io::read_full(0, &mut buf);
-    if !run(&buf[..len]) {
-        io::write_all(2, b"yard-run: standard output cannot be written\n");
+    if run(&rt, &plan).is_err() {
+        return failed(&rt, "standard output cannot be written");
     }
+    ExitCode::SUCCESS
 }

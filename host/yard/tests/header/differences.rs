@@ -48,8 +48,8 @@ const DIRECTIVES: [&str; 13] = [
     "#endif",
     "#endif",
 ];
-const PACKED: &str = "\npacked a = a .kind * 65536 + a .number\n";
-const PACKED_TURN: &str = "\npackedTurn (served i a) = i * 16777216 + packed a\n";
+const PACKED: &str = "\npacked a = a.kind * 65536 + a.number\n";
+const PACKED_TURN: &str = "\npacked_turn (served i a) = i * 16777216 + packed a\n";
 
 /// Names with what they stand for, held against what is wanted: all of them, each once, and no others.
 pub fn named<T: Display + PartialEq>(

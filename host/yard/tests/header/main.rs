@@ -17,7 +17,7 @@ const ENUMS: [&str; 4] = ["", "yard_image_place", "yard_kind", "yard_refusal"];
 #[derive(Clone)]
 struct Texts {
     header: String,
-    /// crates/yard/src/lib.rt
+    /// crates/yard_c/src/lib.rt
     source: String,
     /// crates/roster/src/record.rt
     record: String,
@@ -36,7 +36,7 @@ impl Texts {
     fn ours() -> Texts {
         Texts {
             header: include_str!("../../../../include/yard.h").into(),
-            source: include_str!("../../../../crates/yard/src/lib.rt").into(),
+            source: include_str!("../../../../crates/yard_c/src/lib.rt").into(),
             record: include_str!("../../../../crates/roster/src/record.rt").into(),
             rules: include_str!("../../../../crates/semantics/specs/Rules.antt").into(),
             image: include_str!("../../../../crates/semantics/specs/Image.antt").into(),

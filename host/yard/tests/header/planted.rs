@@ -79,7 +79,7 @@ turn | rule 23 ( | rule 28 ( | YARD_BAD_ROSTER: the header has 23, wanted: 28
 log | rule 15 ( | rule 28 ( | YARD_BAD_START: the header has 15, wanted: 28
 log | rule 18 (not | rule 28 (not | YARD_OUTRANKED: the header has 18, wanted: 28
 # two rules with each other's numbers
-log | rule 16 (ltb i (interactions p)) ∷ rule 17 (enabled p (c .state) i) | rule 17 (ltb i (interactions p)) ∷ rule 16 (enabled p (c .state) i) | YARD_NO_SUCH_MOVE stands before YARD_NOT_ENABLED; YARD_NO_SUCH_MOVE: the header has 16, wanted: 17; YARD_NOT_ENABLED: the header has 17, wanted: 16
+log | rule 16 (ltb i (interactions p)) ∷ rule 17 (enabled p c.state i) | rule 17 (ltb i (interactions p)) ∷ rule 16 (enabled p c.state i) | YARD_NO_SUCH_MOVE stands before YARD_NOT_ENABLED; YARD_NO_SUCH_MOVE: the header has 16, wanted: 17; YARD_NOT_ENABLED: the header has 17, wanted: 16
 rules | (head_ok p) ∷ rule 2 (counts_ok p) | (counts_ok p) ∷ rule 2 (head_ok p) | YARD_BAD_COUNT: the header has 2, wanted: 1; YARD_BAD_HEAD: the header has 1, wanted: 2
 rules | rule 9 (table_ok p 0) ∷ rule 20 | rule 20 (table_ok p 0) ∷ rule 9 | YARD_BAD_ORACLE stands before YARD_BAD_ADDED; YARD_BAD_ORACLE: the header has 9, wanted: 20; YARD_BAD_ADDED: the header has 20, wanted: 9
 # a missing or extra refusal
@@ -104,13 +104,13 @@ image | image_length = 312 | image_length = 320 | YARD_IMAGE_BYTES: the header h
 header | YARD_IMAGE_MARKS = 16 | YARD_IMAGE_MARKS = 15 | YARD_IMAGE_MARKS: the header has 15, wanted: 16
 header | YARD_IMAGE_ORACLE = 8, |  | YARD_IMAGE_ORACLE is not in the header, wanted: 8
 image | value_place v = 56 | value_place v = 60 | YARD_IMAGE_VALUES: the header has 56, wanted: 60
-image | ∷ getD qs 1 0 ∷ | ∷ | YARD_IMAGE_PLAN_NUMBER: the header has 12, wanted: 11
+image | ∷ get_or qs 1 0 ∷ | ∷ | YARD_IMAGE_PLAN_NUMBER: the header has 12, wanted: 11
 # another packing
 header | >> 16 | >> 8 | the header's directives are other ones: Some("#define YARD_KIND(answer) (((uint32_t)(answer) >> 8) & 0xffu)")
 header | >> 24 | >> 16 | the header's directives are other ones: Some("#define YARD_LANE(answer) ((uint32_t)(answer) >> 16)")
 header | 65536u + 3u | 65536u + 4u | the header's directives are other ones: Some("#define YARD_OF_LANE(answer)
 header | #define YARD_H | #define YARD_H 1 | the header's directives are other ones: Some("#define YARD_H 1")
-calls | a .kind * 65536 | a .kind * 256 | not found: packed a
+calls | a.kind * 65536 | a.kind * 256 | not found: packed a
 turn | i * 16777216 | i * 65536 | not found: packed_turn (served i a)
 # an enumeration more or less
 header | enum yard_kind { | enum { YARD_LATE = 9 }; enum yard_kind { | the header's enumerations are other ones

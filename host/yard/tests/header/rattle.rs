@@ -21,7 +21,9 @@ pub fn exported(source: &str) -> Result<Named<String>, String> {
 /// A record of the source under the header's name: its fields in order, with their types.
 pub fn record(source: &str, name: &str, in_c: &str) -> Result<Named<Named<String>>, String> {
     let all = tokens(&without_lines(source, "//"));
-    let head = tokens(&format!("#[repr(C)] pub struct {name} {{"));
+    let head = tokens(&format!(
+        "#[repr(C)] #[derive(Clone, Copy)] pub struct {name} {{"
+    ));
     let at = all.windows(head.len()).position(|words| words == head);
     let fields = at.and_then(|at| fields(&all[at + head.len()..]));
     let fields = fields.ok_or(format!("{name} of the source cannot be read"))?;
