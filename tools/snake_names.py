@@ -14,7 +14,7 @@ import sys
 
 TOKEN = re.compile(r'"(?:\\.|[^"\\\n])*"|(?<![^\s(){}.;,])--[^\n]*|[^\s(){}.;,@"«»]+|.', re.S)
 WORD = re.compile(r"[a-z][^\s(){}.;,@\"«»]*\Z")
-CAMEL = re.compile(r"(?<=[a-z0-9])[A-Z]")
+CAMEL = re.compile(r"(?<=[A-Za-z0-9])[A-Z]")
 USE = re.compile(r"\buse ([^\s;{]+?)\.?\{([^}]*)\}")
 CLAUSE = re.compile(r"\b(?:requires|ensures|ghost)\b\*?[^{};]*\{")
 SPAN = re.compile(r"`([^`\n]+)`")

@@ -4,7 +4,7 @@ use Prim.Native.Nat.{ℕ}
 use mathlib.Core.List.{List}
 use Rattle.semantics.specs.Plan.{Plan}
 use Rattle.semantics.specs.Code.{State}
-use Rattle.semantics.specs.Move.{Configuration, letter, next_states, judged}
+use Rattle.semantics.specs.Move.{letter, next_states, judged}
 
 -- the states after the letter that was found
 pub judged-by : (p : Plan) (qs : List ℕ) (s : State) {rs : List ℕ} {a : ℕ} → rs ≡ next_states p qs a → a ≡ letter p s

@@ -1,0 +1,22 @@
+use mathlib.Core.Path.{sym, ◌∙◌}
+use native.Mathlib.Omega.{arith}
+use Rattle.semantics.specs.Code.{shared_in}
+use Rattle.semantics.specs.Rules.{interaction_code}
+use Rattle.semantics.proofs.Basics.{eqb-true}
+use Rattle.plan.proofs.NameLaws.{pair-names}
+use Rattle.plan.proofs.spans.interaction_code.Goals as goal
+
+pub starts_ok-requires : goal.starts_ok-requires
+starts_ok-requires c =
+    let laid = c.requires.laid in
+    record { laid = (laid, omega arith, omega arith); update_value = eqb-true _ _ (sym c.both_empty.ensures ∙ c.if-both_empty.true) }
+
+pub returns-then-both_empty : goal.returns-then-both_empty
+unfolding interaction_code
+returns-then-both_empty c =
+    let a = c.args in
+    rw c.interaction_at-at.ensures.0 at (c.starts_ok.ensures (shared_in a.plan.now a.i))
+
+pub returns : goal.returns
+unfolding interaction_code
+returns c = rw c.interaction_at-at.ensures.0 at c.pair_ok.ensures ∙ pair-names _ _ _ _ _ c.shared_mask.ensures
