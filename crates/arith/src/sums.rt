@@ -5,6 +5,7 @@ ghost use Rattle.semantics.specs.Signed.{saturate, add, subtract, extend};
 use crate::wide::{wide_add, wide_extend, wide_sub};
 
 // An exact result held at the ends of signed 32 bits: the one place where it is cut to size.
+#[tactic(auto, unfolding(semantics::specs::Signed::saturate))]
 fn saturate(s: i64) -> i32
     ensures { result ≡ saturate s }
 {

@@ -25,7 +25,10 @@ use Rattle.bip.proofs.SafetyProperty.{safety_tolerant, Judges}
 
 -- 002 definition 14: an oracle's transition function
 pub reads_is_alone : {p : Plan} {n θ θ' : ℕ} {e : Letter p} → ReadsAlone p n θ e θ' → θ' ≡ next p n θ e.0
-reads_is_alone reads = refl
+reads_is_alone {p} {n} {θ} {θ'} {e} r = led e θ' r
+  where
+    led : (e : Letter p) (θ' : ℕ) → ReadsAlone p n θ e θ' → θ' ≡ next p n θ e.0
+    led e θ' reads = refl
 
 pub reads_once_alone : {p : Plan} {n θ θ' θ'' : ℕ} {σ : List (Letter p)} → Path (ReadsAlone p n) θ σ θ' → Path (ReadsAlone p n) θ σ θ'' → θ' ≡ θ''
 reads_once_alone = path_once (λ θ e t u q r. reads_is_alone q ∙ sym (reads_is_alone r))

@@ -9,7 +9,7 @@ use Rattle.semantics.specs.Bytes.{bit, mask}
 use Rattle.semantics.specs.Plan.{Plan, interactions}
 use Rattle.semantics.specs.Code.{State}
 use Rattle.semantics.specs.Move.{Configuration, enabled, after, good, safe, may_commit}
-use Rattle.semantics.specs.Image.{Image, image, marks_of, configuration_of}
+use Rattle.semantics.specs.Image.{Image, marks_of, configuration_of}
 use Rattle.semantics.specs.Calls.{committed, stalled, penned, settle, call_rules, called}
 use Rattle.semantics.proofs.Basics.{bool_cases, absurd_bool}
 use Rattle.semantics.proofs.RuleLists.{Kept}

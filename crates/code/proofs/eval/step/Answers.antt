@@ -1,4 +1,5 @@
 use mathlib.Core.Path.{◌≡◌}
+use Prim.Native.Nat.{◌<◌}
 use native.Mathlib.Omega.{arith}
 use Rattle.arith.proofs.Signed32.{back32}
 use Rattle.code.proofs.WordsHeld.{fit_push, fit_extend, fit_load, fit_store, fit_operator, did_push, did_extend, did_load, did_store, did_operator, last_known, action_stores}
@@ -33,7 +34,8 @@ pub bounds-values-v : goal.bounds-values-v
 bounds-values-v c =
     let stores : c.args.kind ≡ 3 =
     action_stores _ _ _ (omega arith) (omega arith) c.requires.n_bound.1 in
-    (fit_store _ _ _ _ stores c.requires.n_bound.1).1
+    let declared : c.args.n < 64 = (fit_store _ _ _ _ stores c.requires.n_bound.1).1 in
+    omega (arith, stores, declared)
 
 pub pop-requires : goal.pop-requires
 pop-requires c =
