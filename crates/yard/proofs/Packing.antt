@@ -1,11 +1,9 @@
 -- The one-number form of a call's answer: of a refusal, and of an accepted check.
 use mathlib.Core.Path.{◌≡◌, refl, sym, ap, ◌∙◌}
-use Prim.Native.Nat.{ℕ, zero, suc, ◌+◌, ◌*◌}
-use native.Mathlib.Omega.{arith}
+use Prim.Native.Nat.{ℕ, zero, suc, ◌+◌}
 use mathlib.Core.List.{[]}
 use Rattle.semantics.specs.Plan.{Plan}
-use Rattle.semantics.specs.Refusal.{refusal}
-use Rattle.semantics.specs.Rules.{plan_rules, plan_refusal}
+use Rattle.semantics.specs.Rules.{plan_refusal}
 use Rattle.semantics.specs.Image.{Image}
 use Rattle.semantics.specs.Calls.{accepted, Outcome, outcome, packed, unless_refused, check}
 
