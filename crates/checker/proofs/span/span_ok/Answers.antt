@@ -13,12 +13,6 @@ returns-then-size-eq0 c =
     ap₂ (λ (x y : ℕ). leb x y && not a.looks) c.span_start-start.ensures.0 c.code_words.ensures.0
     ∙ span_empty _ _ _ _ (sym c.span_size-size.ensures.0 ∙ c.if-size-eq0.true)
 
-pub returns-then-size-gt64 : goal.returns-then-size-gt64
-returns-then-size-gt64 c =
-    let a = c.args in
-    let h : 64 < (span_at a.plan.now a.at).size = omega arith in
-    span_long _ _ _ _ h
-
 pub returns-then-start-size : goal.returns-then-start-size
 returns-then-start-size c =
     let a = c.args in
@@ -41,3 +35,9 @@ returns-else-stores c =
     let l : (span_at a.plan.now a.at).start + (span_at a.plan.now a.at).size ≤ code_words a.plan.now = omega arith in
     let e : 0 < (span_at a.plan.now a.at).size = omega arith in
     rw c.if-stores.false ((rw (c.span_start-start.ensures.0, c.span_size-size.ensures.0) at c.words_ok-else-stores.ensures) ∙ span_words _ _ _ _ h l e)
+
+pub returns-then-size-gt64 : goal.returns-then-size-gt64
+returns-then-size-gt64 c =
+    let a = c.args in
+    let h : 64 < (span_at a.plan.now a.at).size = omega arith in
+    span_long _ _ _ _ h

@@ -94,18 +94,6 @@ returns-then-n-interactions c =
     let w = parts (ends_settled read c.if-refusal-ne0.false g.result.number g.ensures.number_value below) in
     (w.0, c.store.ensures ∙ ap (λ (x : Configuration). image c.args.plan.now x 0) (g.ensures.oracles_after below) ∙ w.1)
 
-pub returns-then-lane-eq0 : goal.returns-then-lane-eq0
-unfolding answer_of
-returns-then-lane-eq0 c =
-    let run : Run =
-    c.load-run.result in
-    let read : Read c.args.plan.now c.args.image.now run c.read-lane.result =
-    record { refusal_is = c.read-lane.ensures.refusal_value; run_is = c.load-run.ensures; known = c.read-lane.ensures.known } in
-    let above : interactions c.args.plan.now ≤ c.safe_move-found.result.number =
-    omega (arith, c.interactions.ensures.0, c.if-n-interactions.false) in
-    let g = c.safe_move-found in
-    parts (ends_stalled read c.if-refusal-ne0.false g.result.number g.ensures.number_value above c.if-lane-eq0.true)
-
 pub put_marks-requires : goal.put_marks-requires
 put_marks-requires c =
     let run : Run =
@@ -126,5 +114,17 @@ returns c =
     let above : interactions c.args.plan.now ≤ c.safe_move-found.result.number =
     omega (arith, c.interactions.ensures.0, c.if-n-interactions.false) in
     let g = c.safe_move-found in
-    let w = parts (ends_penned read c.if-refusal-ne0.false g.result.number g.ensures.number_value above c.if-lane-eq0.false) in
+    let w = parts (ends_penned read c.if-refusal-ne0.false g.result.number g.ensures.number_value above (omega arith)) in
     (w.0, c.put_marks.ensures ∙ w.1)
+
+pub returns-then-lane-eq0 : goal.returns-then-lane-eq0
+unfolding answer_of
+returns-then-lane-eq0 c =
+    let run : Run =
+    c.load-run.result in
+    let read : Read c.args.plan.now c.args.image.now run c.read-lane.result =
+    record { refusal_is = c.read-lane.ensures.refusal_value; run_is = c.load-run.ensures; known = c.read-lane.ensures.known } in
+    let above : interactions c.args.plan.now ≤ c.safe_move-found.result.number =
+    omega (arith, c.interactions.ensures.0, c.if-n-interactions.false) in
+    let g = c.safe_move-found in
+    parts (ends_stalled read c.if-refusal-ne0.false g.result.number g.ensures.number_value above c.if-lane-eq0.true)
