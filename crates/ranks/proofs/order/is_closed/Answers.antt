@@ -1,4 +1,4 @@
-use mathlib.Core.Path.{◌≡◌, refl, sym, ap, ap₂, ◌∙◌, subst}
+use mathlib.Core.Path.{◌≡◌, refl, sym, ap, ap₂, ◌∙◌}
 use Prim.Native.Nat.{ℕ, ◌<◌}
 use native.Mathlib.Nat.{le_refl}
 use native.Mathlib.Omega.{arith}
@@ -13,7 +13,7 @@ use Rattle.semantics.proofs.Masks.{bit-zero}
 use Rattle.words.proofs.BitLaws.{bit_or_lem}
 use Rattle.words.proofs.SubsetLaws.{union_inside}
 use Rattle.words.proofs.Gather.{lowest-held, with_held}
-use Rattle.ranks.specs.RankRow.{covers, Reached, Told}
+use Rattle.ranks.specs.RankRow.{covers, Reached}
 use Rattle.ranks.proofs.RankRows.{bounded_at}
 use Rattle.ranks.proofs.RankWalk.{Tried, left_start, tried, left_next, left_done, closed-covers}
 use Rattle.ranks.proofs.order.is_closed.Goals as goal
@@ -126,10 +126,6 @@ returns-then-rest-eq0 c =
           c.if-rest-eq0.true,
       λ e. seen_last ∙ closed-covers plan row e low c.lowest_bit-in-loop-left.ensures.1 low-in,
     )
-
--- the row is the one before
-pub returns-then-row-before : goal.returns-then-row-before
-returns-then-row-before c = (λ _. subst (Told c.args.plan.now) (sym c.if-row-before.true) c.requires.2, λ e. refl)
 
 pub rank_row-requires : goal.rank_row-requires
 rank_row-requires c =
