@@ -1,17 +1,25 @@
-use mathlib.Core.Path.{◌≡◌, ap, sym, subst, ◌∙◌}
-use mathlib.Core.Bool.{false}
+use mathlib.Core.Path.{refl, ◌≡◌, ap, sym, subst, ◌∙◌}
+use mathlib.Core.Bool.{Bool, true, false}
 use mathlib.Core.List.{List}
 use Prim.Native.Nat.{ℕ, ◌+◌, ◌<◌}
 use native.Mathlib.Omega.{arith}
 use lib.ListN.{length}
 use Rattle.semantics.specs.Bytes.{byte}
-use Rattle.semantics.specs.Plan.{transitions, component_of, port_of, port_in}
+use Rattle.semantics.specs.Rules.{plan_refusal}
+use Rattle.semantics.specs.Plan.{Plan, interactions, transitions, component_of, port_of, port_in}
 use Rattle.semantics.specs.Code.{State, site}
 use Rattle.semantics.proofs.Basics.{absurd_bool, eq-eqb}
 use Rattle.layout.proofs.Sections.{laid_accepted}
+use Rattle.choices.specs.Choices.{noted}
 use Rattle.choices.proofs.ChoiceLaws.{FoundIn, found_none, found_all, found_step, found_skip}
 use Rattle.choices.proofs.choice.choose_in.Goals as goal
-use Rattle.choices.proofs.choice.choose_in.Goals.{then-is_named, else-is_named}
+
+-- whether the transition is named, and what becomes of the table in either case
+found_join : (p : Plan) (s : State) (i : ℕ) (out : List ℕ) (t : ℕ) → t < transitions p → FoundIn p s i out t → plan_refusal p ≡ 0 → i < interactions p
+    → (named : Bool) (r : List ℕ) → (named ≡ true → (r ≡ noted p s t out) × (length r ≡ 256)) → (named ≡ false → r ≡ out)
+    → (named ≡ false → port_in p i (component_of p t) ≡ port_of p t → ⊥) → FoundIn p s i r (t + 1)
+found_join p s i out t l f h q true r a b o = found_step p s i out t l f r h q (a refl).0 (a refl).1
+found_join p s i out t l f h q false r a b o = subst (λ (x : List ℕ). FoundIn p s i x (t + 1)) (sym (b refl)) (found_skip p s i out t l f (o refl))
 
 pub interaction_at-row-requires : goal.interaction_at-row-requires
 interaction_at-row-requires c = (laid_accepted _ c.requires.plan_value, c.requires.i_bound.0)
@@ -59,14 +67,8 @@ loop-t-preserved c =
       omega arith,
       c.loop-t.invariant.1,
       c.loop-t.invariant.2,
-      elim c.if-is_named.branch [
-        | then-is_named w ↦
-            found_step p state i c.loop-t.out c.loop-t.t l c.loop-t.invariant.3 c.if-is_named.out c.requires.plan_value c.requires.i_bound.0
-            (w.out-is ∙ w.consider.ensures.0) (ap (λ (x : List ℕ). length x) w.out-is ∙ w.consider.ensures.1)
-        | else-is_named w ↦
-            subst (λ (x : List ℕ). FoundIn p state i x (c.loop-t.t + 1)) (sym w.out-is)
-            (found_skip p state i c.loop-t.out c.loop-t.t l c.loop-t.invariant.3 (other w.if-is_named.false))
-      ],
+      found_join p state i c.loop-t.out c.loop-t.t l c.loop-t.invariant.3 c.requires.plan_value c.requires.i_bound.0 c.is_named.result _
+          (λ e. (grind arith, grind arith)) (λ e. grind arith) other,
     )
 
 pub returns : goal.returns
