@@ -8,9 +8,8 @@
  * A lawful plan has at most 16128 bytes.
  *
  * The caller owes that each pointer is not null, even where the length is 0, and valid for its length (a roster for
- * its lanes), that a roster is aligned as struct yard_lane is, at an even address, that the image does not overlap the
- * plan or a list, that roster and images do not overlap each other or the plan, and that nobody else writes plan,
- * image, log, list, roster or images during the call.
+ * its lanes), that the image does not overlap the plan or a list, that roster and images do not overlap each other or
+ * the plan, and that nobody else writes plan, image, log, list, roster or images during the call.
  */
 #ifndef YARD_H
 #define YARD_H
@@ -125,7 +124,7 @@ uint32_t yard_list(const uint8_t *plan, size_t plan_len, uint8_t *image, size_t 
  * those of all lanes end to end. The lane's wait becomes 0 and every other wait, a held lane's too, grows by one and stops at 65535. Answers with the
  * lane: committed, stalled, penned, or refused with 12 to 14, which uses up the turn and leaves the image as it is. Answers of no lane (YARD_OF_LANE
  * and YARD_LANE are 0), where nothing changes: idle, or refused with 1 to 10, 20 or 23. A lane that is not held meanwhile has its turn within as many
- * turns as there are lanes, not counting those that are refused with 1 to 10, 20 or 23, if turns alone change the waits. */
+ * turns as there are lanes, if these alone change the waits. */
 uint32_t yard_turn(const uint8_t *plan, size_t plan_len, struct yard_lane *roster, size_t lanes, uint8_t *images, size_t images_len);
 
 /* Whether a log is a run from the starting state: moves of 16 bits each, lowest byte first, each of them enabled and ending good after those

@@ -44,13 +44,15 @@ mod says;
 mod state;
 mod turns;
 
+ghost use Rattle.std.specs.Prelude.{◌≤◌, IfOk};
+
 use calls::{call_step, lane_step, look};
 use memory::NOWHERE;
 use plans::{keep, plan_step, take};
 use reading::{packed, parse, seek};
 use says::{say, say_part};
 use std::io;
-use std::io::Read;
+use std::io::{ErrorKind, Read};
 
 // The lent memory: the plan, then from MOVES on the moves, and from KEPT on the plans that are kept.
 const MOVES: usize = 32768;
@@ -65,7 +67,7 @@ const ROSTER: usize = 9 * 312;
 const BEFORE: usize = ROSTER + 36;
 
 // The longest text.
-const TEXT: u64 = 131072;
+const TEXT: usize = 131072;
 
 // Memory for each of the two; what is lent besides; the numbers of a step.
 type Memory = [u8; KEPT + 24 * KEPT_SIZE];
@@ -261,16 +263,36 @@ fn run(
     Ok(())
 }
 
+// Reads standard input, to its end or to that of the buffer. Gives its length.
+fn read_full(rt: &impl Input, text: &mut [u8; TEXT]) -> io::Result<usize>
+    ensures { IfOk result (λ n. n ≤ 131072) }
+{
+    let mut input = rt.reader();
+    let mut len = 0;
+    for _ in 0..u64::MAX {
+        match input.read(&mut text[len..]) {
+            Ok(0) => return Ok(len),
+            Ok(n) => len += n,
+            Err(e) => {
+                if e.kind() != ErrorKind::Interrupted {
+                    return Err(e);
+                }
+            }
+        }
+    }
+    Ok(len)
+}
+
 fn main(rt: HostRuntime) -> io::Result<()> {
-    let mut text = Vec::new(rt.alloc());
+    let mut text = [0u8; TEXT];
     let mut lent = [0u8; KEPT + 24 * KEPT_SIZE];
     let mut images = [0u8; KEPT + 24 * KEPT_SIZE];
     let mut s = [0usize; state::END];
     s[state::MOVES_END] = MOVES;
     name_steps(&mut s);
-    rt.reader().take(TEXT).read_to_end(&mut text)?;
-    run(&rt, &text, &mut lent, &mut images, &mut s)?;
-    if text.len() as u64 == TEXT {
+    let len = read_full(&rt, &mut text)?;
+    run(&rt, &text[..len], &mut lent, &mut images, &mut s)?;
+    if len == TEXT {
         rt.write_all(b"the cases are longer than the memory for them\n")?;
     }
     Ok(())

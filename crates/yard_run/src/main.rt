@@ -1,12 +1,14 @@
 #![tactic(auto)]
 // yard-run: reads a plan from standard input, starts a lane and settles at most six times, a line each. Where standard input could not be read or
 // standard output not be written it says so on standard error, and its exit status is 1.
+ghost use Rattle.std.specs.Prelude.{◌≤◌, IfOk};
+
 use std::io;
-use std::io::Read;
+use std::io::{ErrorKind, Read};
 use std::process::ExitCode;
 
 // One byte more than the longest lawful plan: a longer input meets the same number as the whole would.
-const MOST: u64 = 16129;
+const MOST: usize = 16129;
 
 // A word and a number on a line.
 fn numbered(rt: &impl Print, word: &[u8], n: u32) -> io::Result<()> {
@@ -54,9 +56,24 @@ fn run(rt: &impl Print, plan: &[u8]) -> io::Result<()> {
     settles(rt, plan, &mut image)
 }
 
-// Reads the plan from standard input. Says whether it could be read.
-fn readable(rt: &impl Input, plan: &mut Vec<u8>) -> bool {
-    rt.reader().take(MOST).read_to_end(plan).is_ok()
+// Reads the plan from standard input, to its end or to that of the buffer. Gives its length.
+fn readable(rt: &impl Input, plan: &mut [u8; MOST]) -> io::Result<usize>
+    ensures { IfOk result (λ n. n ≤ 16129) }
+{
+    let mut input = rt.reader();
+    let mut len = 0;
+    for _ in 0..u64::MAX {
+        match input.read(&mut plan[len..]) {
+            Ok(0) => return Ok(len),
+            Ok(n) => len += n,
+            Err(e) => {
+                if e.kind() != ErrorKind::Interrupted {
+                    return Err(e);
+                }
+            }
+        }
+    }
+    Ok(len)
 }
 
 fn failed(rt: &impl Eprint, why: &str) -> ExitCode {
@@ -65,11 +82,11 @@ fn failed(rt: &impl Eprint, why: &str) -> ExitCode {
 }
 
 fn main(rt: HostRuntime) -> ExitCode {
-    let mut plan = Vec::new(rt.alloc());
-    if !readable(&rt, &mut plan) {
+    let mut plan = [0u8; MOST];
+    let Ok(len) = readable(&rt, &mut plan) else {
         return failed(&rt, "standard input cannot be read");
-    }
-    if run(&rt, &plan).is_err() {
+    };
+    if run(&rt, &plan[..len]).is_err() {
         return failed(&rt, "standard output cannot be written");
     }
     ExitCode::SUCCESS
