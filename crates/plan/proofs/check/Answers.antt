@@ -6,6 +6,13 @@ use Rattle.semantics.specs.Rules.{header_rules, table_rules, code_rules, plan_ru
 use Rattle.semantics.proofs.Refusing.{numbered, refused-first, refusal-after, none-refused}
 use Rattle.layout.proofs.Sections.{laid_header}
 use Rattle.plan.proofs.check.Goals as goal
+use Rattle.plan.proofs.check.Goals.{Else-of_header-ne0, Else-of_tables-ne0}
+
+header_kept : (c : Else-of_header-ne0) → refusal (header_rules c.args.plan.now) ≡ 0
+header_kept c = sym c.header_refusal-of_header.ensures ∙ c.if-of_header-ne0.false
+
+tables_kept : (c : Else-of_tables-ne0) → refusal (table_rules c.args.plan.now) ≡ 0
+tables_kept c = sym c.table_refusal-of_tables.ensures ∙ c.if-of_tables-ne0.false
 
 -- a plan is refused as what is left of its rules
 past-header : (p : Plan) → refusal (header_rules p) ≡ 0 → plan_refusal p ≡ refusal (table_rules p ++ code_rules p)
@@ -23,30 +30,17 @@ returns-then-of_header-ne0 c =
     sym (refused-first (header_rules p) (table_rules p ++ code_rules p) _ (sym c.header_refusal-of_header.ensures) c.if-of_header-ne0.true)
 
 pub table_refusal-of_tables-requires : goal.table_refusal-of_tables-requires
-table_refusal-of_tables-requires c =
-    let header-kept : refusal (header_rules c.args.plan.now) ≡ 0 =
-    sym c.header_refusal-of_header.ensures ∙ c.if-of_header-ne0.false in
-    laid_header _ header-kept
+table_refusal-of_tables-requires c = laid_header _ (header_kept (goal.at.table_refusal-of_tables-requires c).Else-of_header-ne0)
 
 pub returns-then-of_tables-ne0 : goal.returns-then-of_tables-ne0
 returns-then-of_tables-ne0 c =
-    let header-kept : refusal (header_rules c.args.plan.now) ≡ 0 =
-    sym c.header_refusal-of_header.ensures ∙ c.if-of_header-ne0.false in
     let p = c.args.plan.now in
-    sym (past-header p header-kept ∙ refused-first (table_rules p) (code_rules p) _ (sym c.table_refusal-of_tables.ensures) c.if-of_tables-ne0.true)
+    sym (past-header p (header_kept (goal.at.returns-then-of_tables-ne0 c).Else-of_header-ne0) ∙ refused-first (table_rules p) (code_rules p) _ (sym c.table_refusal-of_tables.ensures) c.if-of_tables-ne0.true)
 
 pub code_refusal-requires : goal.code_refusal-requires
 code_refusal-requires c =
-    let header-kept : refusal (header_rules c.args.plan.now) ≡ 0 =
-    sym c.header_refusal-of_header.ensures ∙ c.if-of_header-ne0.false in
-    let tables-kept : refusal (table_rules c.args.plan.now) ≡ 0 =
-    sym c.table_refusal-of_tables.ensures ∙ c.if-of_tables-ne0.false in
-    (laid_header _ header-kept, tables-kept)
+    (laid_header _ (header_kept (goal.at.code_refusal-requires c).Else-of_header-ne0), (tables_kept (goal.at.code_refusal-requires c).Else-of_tables-ne0))
 
 pub returns : goal.returns
 returns c =
-    let header-kept : refusal (header_rules c.args.plan.now) ≡ 0 =
-    sym c.header_refusal-of_header.ensures ∙ c.if-of_header-ne0.false in
-    let tables-kept : refusal (table_rules c.args.plan.now) ≡ 0 =
-    sym c.table_refusal-of_tables.ensures ∙ c.if-of_tables-ne0.false in
-    c.code_refusal.ensures ∙ sym (past-tables _ header-kept tables-kept)
+    c.code_refusal.ensures ∙ sym (past-tables _ (header_kept (goal.at.returns c).Else-of_header-ne0) (tables_kept (goal.at.returns c).Else-of_tables-ne0))

@@ -13,6 +13,11 @@ use Rattle.layout.proofs.Sections.{laid_accepted}
 use Rattle.choices.specs.Choices.{noted}
 use Rattle.choices.proofs.ChoiceLaws.{FoundIn, found_none, found_all, found_step, found_skip}
 use Rattle.choices.proofs.choice.choose_in.Goals as goal
+use Rattle.choices.proofs.choice.choose_in.Goals.{In-loop-t}
+
+-- the transition whose turn it is
+known : (c : In-loop-t) → c.loop-t.t < transitions c.args.plan.now
+known c = omega arith
 
 -- whether the transition is named, and what becomes of the table in either case
 found_join : (p : Plan) (s : State) (i : ℕ) (out : List ℕ) (t : ℕ) → t < transitions p → FoundIn p s i out t → plan_refusal p ≡ 0 → i < interactions p
@@ -29,8 +34,7 @@ transitions-count-requires c = (laid_accepted _ c.requires.plan_value).long
 
 pub loop-t-init : goal.loop-t-init
 loop-t-init c =
-    let state : State =
-    site c.args.locations.now c.args.ports.now c.args.values.now in (
+    let state : State = site c.args.locations.now c.args.ports.now c.args.values.now in (
       omega arith,
       c.transitions-count.ensures.0,
       c.interaction_at-row.ensures.1,
@@ -39,31 +43,22 @@ loop-t-init c =
 
 pub is_named-requires : goal.is_named-requires
 is_named-requires c =
-    let known : c.loop-t.t < transitions c.args.plan.now =
-    omega arith in
-    record { plan_value = c.requires.plan_value; row_in_bounds = (c.loop-t.invariant.2, known) }
+    record { plan_value = c.requires.plan_value; row_in_bounds = (c.loop-t.invariant.2, (known (goal.at.is_named-requires c).In-loop-t)) }
 
 pub consider-requires : goal.consider-requires
 consider-requires c =
-    let known : c.loop-t.t < transitions c.args.plan.now =
-    omega arith in
-    record { plan_value = c.requires.plan_value; t_bound = (known, c.loop-t.invariant.3.long) }
+    record { plan_value = c.requires.plan_value; t_bound = ((known (goal.at.consider-requires c).In-loop-t), c.loop-t.invariant.3.long) }
 
 pub loop-t-preserved : goal.loop-t-preserved
 loop-t-preserved c =
-    let state : State =
-    site c.args.locations.now c.args.ports.now c.args.values.now in
-    let known : c.loop-t.t < transitions c.args.plan.now =
-    omega arith in
-    let other : c.is_named.result ≡ false
-    → let p = c.args.plan.now in
-    port_in p c.args.i (component_of p c.loop-t.t) ≡ port_of p c.loop-t.t → ⊥ =
+    let state : State = site c.args.locations.now c.args.ports.now c.args.values.now in
+    let other : c.is_named.result ≡ false → let p = c.args.plan.now in port_in p c.args.i (component_of p c.loop-t.t) ≡ port_of p c.loop-t.t → ⊥ =
     λ e q. let p = c.args.plan.now in
     let row = c.interaction_at-row.ensures.0 in
     absurd_bool (c.is_named.ensures ∙ eq-eqb _ _ (ap (λ (x : ℕ). byte p (x + component_of p c.loop-t.t)) row ∙ q)) e in
     let p = c.args.plan.now in
     let i = c.args.i in
-    let l = known in (
+    let l = (known (goal.at.loop-t-preserved c).In-loop-t) in (
       omega arith,
       c.loop-t.invariant.1,
       c.loop-t.invariant.2,
@@ -73,6 +68,5 @@ loop-t-preserved c =
 
 pub returns : goal.returns
 returns c =
-    let state : State =
-    site c.args.locations.now c.args.ports.now c.args.values.now in
+    let state : State = site c.args.locations.now c.args.ports.now c.args.values.now in
     found_all c.args.plan.now state c.args.i c.loop-t.out c.loop-t.t (omega arith) c.loop-t.invariant.3

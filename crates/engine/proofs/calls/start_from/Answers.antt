@@ -14,6 +14,22 @@ use Rattle.engine.proofs.CallLaws.{parts}
 use Rattle.engine.proofs.Refusals.{start_plan, start_11, start_15, start-accepted}
 use borrow.Author.Rules.{rules}
 use Rattle.engine.proofs.calls.start_from.Goals as goal
+use Rattle.engine.proofs.calls.start_from.Goals.{After-good, After-judge-oracles, Else-checked-ne0, Else-image-ne-LENGTH}
+
+accepted : (c : Else-checked-ne0) → plan_refusal c.args.plan.now ≡ 0
+accepted c = sym c.requires ∙ c.if-checked-ne0.false
+
+long : (c : Else-image-ne-LENGTH) → length c.args.image.now ≡ image_length
+long c = c.if-image-ne-LENGTH.false
+
+-- the starting configuration, its event read
+made : (c : After-judge-oracles) → let r = c.starting-run.result in lent r.locations r.last_ports r.values c.judge-oracles.result ≡ initial c.args.plan.now
+made c = unfold initial in c.judge-oracles.ensures.0 ∙ ap (λ (r : Run). judged c.args.plan.now r.oracles (state_of r)) c.starting-run.ensures
+
+good_is : (c : After-good) → c.good.result ≡ good c.args.plan.now (initial c.args.plan.now)
+good_is c =
+    let p = c.args.plan.now in
+    c.good.ensures ∙ ends_good p _ (initial p) (made (goal.at.After-good c).After-judge-oracles)
 
 pub returns-then-checked-ne0 : goal.returns-then-checked-ne0
 unfolding answer_of
@@ -22,62 +38,30 @@ returns-then-checked-ne0 c = parts (start_plan c.args.plan.now c.args.image.now 
 pub returns-then-image-ne-LENGTH : goal.returns-then-image-ne-LENGTH
 unfolding answer_of
 returns-then-image-ne-LENGTH c =
-    let accepted : plan_refusal c.args.plan.now ≡ 0 =
-    sym c.requires ∙ c.if-checked-ne0.false in
-    parts (start_11 c.args.plan.now c.args.image.now accepted c.if-image-ne-LENGTH.true)
+    parts (start_11 c.args.plan.now c.args.image.now (accepted (goal.at.returns-then-image-ne-LENGTH c).Else-checked-ne0) c.if-image-ne-LENGTH.true)
 
 pub starting-run-requires : goal.starting-run-requires
-starting-run-requires c =
-    let accepted : plan_refusal c.args.plan.now ≡ 0 =
-    sym c.requires ∙ c.if-checked-ne0.false in
-    accepted
+starting-run-requires c = accepted (goal.at.starting-run-requires c).Else-checked-ne0
 
 pub judge-oracles-requires : goal.judge-oracles-requires
 judge-oracles-requires c =
-    let accepted : plan_refusal c.args.plan.now ≡ 0 =
-    sym c.requires ∙ c.if-checked-ne0.false in
     let p = c.args.plan.now in
-    let h = accepted in
+    let h = (accepted (goal.at.judge-oracles-requires c).Else-checked-ne0) in
     record { plan_value = h; oracles_value = subst (λ (r : Run). oracles_in_range p r.oracles ≡ true) (sym c.starting-run.ensures) (start_in_range p (accepted_plan p h)) }
 
 pub returns-then-not-good : goal.returns-then-not-good
 unfolding answer_of
 returns-then-not-good c =
-    let accepted : plan_refusal c.args.plan.now ≡ 0 =
-    sym c.requires ∙ c.if-checked-ne0.false in
-    let long : length c.args.image.now ≡ image_length =
-    c.if-image-ne-LENGTH.false in
-    let made : let r = c.starting-run.result in
-    lent r.locations r.last_ports r.values c.judge-oracles.result ≡ initial c.args.plan.now =
-    unfold initial in c.judge-oracles.ensures.0 ∙ ap (λ (r : Run). judged c.args.plan.now r.oracles (state_of r)) c.starting-run.ensures in
-    let good_is : c.good.result ≡ good c.args.plan.now (initial c.args.plan.now) =
-    let p = c.args.plan.now in
-    c.good.ensures ∙ ends_good p _ (initial p) made in
-    parts (start_15 c.args.plan.now c.args.image.now accepted long (sym good_is ∙ c.if-not-good.true))
+    parts (start_15 c.args.plan.now c.args.image.now (accepted (goal.at.returns-then-not-good c).Else-checked-ne0) (long (goal.at.returns-then-not-good c).Else-image-ne-LENGTH) (sym (good_is (goal.at.returns-then-not-good c).After-good) ∙ c.if-not-good.true))
 
 pub store-requires : goal.store-requires
 store-requires c =
-    let accepted : plan_refusal c.args.plan.now ≡ 0 =
-    sym c.requires ∙ c.if-checked-ne0.false in
-    let long : length c.args.image.now ≡ image_length =
-    c.if-image-ne-LENGTH.false in
-    let sized : Sized c.starting-run.result.locations c.starting-run.result.last_ports c.starting-run.result.values =
-    search rules in
-    record { plan_value = accepted; image_len = (long, sized) }
+    let sized : Sized c.starting-run.result.locations c.starting-run.result.last_ports c.starting-run.result.values = search rules in
+    record { plan_value = (accepted (goal.at.store-requires c).Else-checked-ne0); image_len = ((long (goal.at.store-requires c).Else-image-ne-LENGTH), sized) }
 
 pub returns : goal.returns
 unfolding answer_of
 returns c =
-    let accepted : plan_refusal c.args.plan.now ≡ 0 =
-    sym c.requires ∙ c.if-checked-ne0.false in
-    let long : length c.args.image.now ≡ image_length =
-    c.if-image-ne-LENGTH.false in
-    let made : let r = c.starting-run.result in
-    lent r.locations r.last_ports r.values c.judge-oracles.result ≡ initial c.args.plan.now =
-    unfold initial in c.judge-oracles.ensures.0 ∙ ap (λ (r : Run). judged c.args.plan.now r.oracles (state_of r)) c.starting-run.ensures in
-    let good_is : c.good.result ≡ good c.args.plan.now (initial c.args.plan.now) =
     let p = c.args.plan.now in
-    c.good.ensures ∙ ends_good p _ (initial p) made in
-    let p = c.args.plan.now in
-    let w = parts (start-accepted p c.args.image.now accepted long (sym good_is ∙ c.if-not-good.false)) in
-    (w.0, c.store.ensures ∙ ap (λ (x : Configuration). image p x 0) made ∙ w.1)
+    let w = parts (start-accepted p c.args.image.now (accepted (goal.at.returns c).Else-checked-ne0) (long (goal.at.returns c).Else-image-ne-LENGTH) (sym (good_is (goal.at.returns c).After-good) ∙ c.if-not-good.false)) in
+    (w.0, c.store.ensures ∙ ap (λ (x : Configuration). image p x 0) (made (goal.at.returns c).After-judge-oracles) ∙ w.1)

@@ -9,6 +9,11 @@ use Rattle.moves.proofs.FireLaws.{all_chosen, fire_done, sized_fired}
 use Rattle.layout.proofs.Sections.{laid_accepted}
 use Rattle.code.proofs.TakenSpans.{transfer_taken}
 use Rattle.moves.proofs.fire.fire.Goals as goal
+use Rattle.moves.proofs.fire.fire.Goals.{Start}
+
+parts : (c : Start) → AllChosen c.args.plan.now c.args.chosen.now c.args.i
+parts c =
+    all_chosen c.args.plan.now (site c.args.locations.now c.args.ports.now c.args.values.now) c.args.i c.args.chosen.now c.requires.plan_value c.requires.i_bound.0 c.requires.i_bound.1 c.requires.i_bound.2
 
 pub interaction_at-at-requires : goal.interaction_at-at-requires
 interaction_at-at-requires c = (laid_accepted _ c.requires.plan_value, c.requires.i_bound.0)
@@ -20,24 +25,15 @@ act-requires c =
 
 pub acts-requires : goal.acts-requires
 acts-requires c =
-    let begun : State =
-    site c.args.locations.now c.args.ports.now c.args.values.now in
-    let parts : AllChosen c.args.plan.now c.args.chosen.now c.args.i =
-    all_chosen c.args.plan.now begun c.args.i c.args.chosen.now c.requires.plan_value c.requires.i_bound.0 c.requires.i_bound.1 c.requires.i_bound.2 in
-    record { plan_value = c.requires.plan_value; i_bound = (c.requires.i_bound.0, c.act.ensures.1, parts) }
+    record { plan_value = c.requires.plan_value; i_bound = (c.requires.i_bound.0, c.act.ensures.1, (parts (goal.at.acts-requires c).Start)) }
 
 pub arrive-requires : goal.arrive-requires
 arrive-requires c =
-    let begun : State =
-    site c.args.locations.now c.args.ports.now c.args.values.now in
-    let parts : AllChosen c.args.plan.now c.args.chosen.now c.args.i =
-    all_chosen c.args.plan.now begun c.args.i c.args.chosen.now c.requires.plan_value c.requires.i_bound.0 c.requires.i_bound.1 c.requires.i_bound.2 in
-    record { plan_value = c.requires.plan_value; i_bound = (c.requires.i_bound.0, parts) }
+    record { plan_value = c.requires.plan_value; i_bound = (c.requires.i_bound.0, (parts (goal.at.arrive-requires c).Start)) }
 
 pub returns : goal.returns
 returns c =
-    let begun : State =
-    site c.args.locations.now c.args.ports.now c.args.values.now in
+    let begun : State = site c.args.locations.now c.args.ports.now c.args.values.now in
     let m = c.interaction_at-at in
     let t = c.acts in
     let done = fire_done c.args.plan.now begun c.args.i c.args.chosen.now c.requires.plan_value c.requires.i_bound.0 c.requires.i_bound.1 m.result _ _ _ _ c.requires.sized.locations_long c.requires.sized.ports_long
