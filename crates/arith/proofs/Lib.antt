@@ -1,4 +1,1 @@
-pub mod EndTests
-pub mod Magnitude
-pub mod SignTest
 pub mod Signed32

@@ -1,6 +1,6 @@
 -- Signed 32-bit numbers: their bits, and a value of the code read back from its bits.
 use mathlib.Core.Path.{◌≡◌, refl}
-use Prim.Native.Nat.{ℕ, suc, ◌-◌, ◌<◌}
+use Prim.Native.Nat.{suc, ◌-◌, ◌<◌}
 use native.Mathlib.Omega.{arith}
 use lib.Dec.{eqb}
 use lib.IntN.{ℤ, pos, negsuc}
@@ -8,7 +8,7 @@ use lib.Signed.{mag}
 use mir.Syntax.{w32, w64}
 use mir.Val.{to_z, of_z}
 use mir.Facts.{to_z-of_z}
-use Rattle.semantics.specs.Signed.{signed, residue, equal_z}
+use Rattle.semantics.specs.Signed.{residue, equal_z}
 use Rattle.semantics.proofs.Basics.{same_test, eqb-true, eq-eqb, ne_eqb}
 
 -- ---- a value of the code, read back from its bits
@@ -19,22 +19,13 @@ back32 z h = to_z-of_z {w = w32} (record { sfits = h })
 pub back64 : (z : ℤ) → mag z < 9223372036854775808 → to_z w64 (of_z w64 z) ≡ z
 back64 z h = to_z-of_z {w = w64} (record { sfits = h })
 
--- read back after it was widened
-pub widened : (z : ℤ) → mag z < 2147483648 → to_z w64 (of_z w64 (to_z w32 (of_z w32 z))) ≡ z
-widened z h = rw (back32 z h) (back64 z (omega arith))
-
--- what 32 bits denote is the code's own reading of them
-pub signed-to_z : (u : ℕ) → signed u ≡ to_z w32 u
-unfolding signed
-signed-to_z u = refl
-
 -- ---- the bits
 
 -- the code's bits of a number in range are those that store it
-pub residue-of_z : (z : ℤ) → mag z < 2147483648 → residue z ≡ of_z w32 z
+pub residue_of_z : (z : ℤ) → mag z < 2147483648 → residue z ≡ of_z w32 z
 unfolding residue
-residue-of_z (pos n) h = omega arith
-residue-of_z (negsuc n) h = omega arith
+residue_of_z (pos n) h = omega arith
+residue_of_z (negsuc n) h = omega arith
 
 -- numbers in range are equal where their bits are
 pub same_bits : (a b : ℤ) → mag a < 2147483648 → mag b < 2147483648 → eqb (of_z w32 a) (of_z w32 b) ≡ equal_z a b

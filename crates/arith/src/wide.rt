@@ -5,19 +5,19 @@ ghost use Rattle.std.specs.Prelude.{◌≡◌, pos, ◌+ℤ◌, ◌-ℤ◌, ◌*
 pub fn wide_add(a: i32, b: i32) -> i64
     ensures { result ≡ a +ℤ b }
 {
-    a as i64 + b as i64
+    i64::from(a) + i64::from(b)
 }
 
 // The exact difference.
 pub fn wide_sub(a: i32, b: i32) -> i64
     ensures { result ≡ a -ℤ b }
 {
-    a as i64 - b as i64
+    i64::from(a) - i64::from(b)
 }
 
 // `top` times 4096 plus `n`, exactly.
 pub fn wide_extend(top: i32, n: u16) -> i64
     ensures { result ≡ top *ℤ pos 4096 +ℤ pos n }
 {
-    top as i64 * 4096 + n as i64
+    i64::from(top) * 4096 + i64::from(n)
 }

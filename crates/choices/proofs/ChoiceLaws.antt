@@ -16,6 +16,7 @@ use Rattle.semantics.specs.Rules.{plan_refusal}
 use Rattle.semantics.specs.Move.{ready, chosen, chosen_in}
 use Rattle.semantics.proofs.Basics.{bool_cases, absurd_bool, same_test, and_both, both_and, each, all_of_lem, ltb-true, ltb-false, lt-ltb, le-ltb, eqb-true, eqb_same, eq-eqb, ne_eqb, lowest_le, length-table, get_or-table, table_is, table_same}
 use Rattle.layout.proofs.Sections.{laid_accepted}
+use Rattle.code.proofs.TakenSpans.{guard_taken}
 use Rattle.choices.specs.Choices.{chosen_table, slot_of, ripe, noted, lowest_or, chosen_below, chosen_by, ChosenIn}
 use Rattle.choices.proofs.PlanLaws.{component_lt, port_lt, part_lt}
 
@@ -63,39 +64,7 @@ cond_no true b x y e = rw e refl
 cond_no false b x y e = refl
 
 module _ (p : Plan) (s : State) (t : ℕ) (out : List ℕ) where
-  -- the component c is not at the transition's source g
-  pub noted_away : (c g : ℕ) → c ≡ component_of p t → g ≡ source p t → (g ≡ get_or s.locations c 0 → ⊥) → out ≡ noted p s t out
-  unfolding noted ripe
-  noted_away c g x y f =
-      sym (cond_no (eqb (get_or out (slot_of p t) 0) (transitions p)) (ripe p s t) (set out (slot_of p t) t) out
-      (ap (λ (b : Bool). b && guard_holds p s (guard_of p t)) (ne_eqb _ _ (λ e. f (y ∙ e ∙ ap (λ (k : ℕ). get_or s.locations k 0) (sym x))))))
-
-  -- a lower transition stands in the slot
-  pub noted-closed : (k n : ℕ) → k ≡ slot_of p t → n ≡ transitions p → (get_or out k 0 ≡ n → ⊥) → out ≡ noted p s t out
-  unfolding noted
-  noted-closed k n x y f =
-      sym (ap (λ (b : Bool). cond (b && ripe p s t) (set out (slot_of p t) t) out)
-      (ne_eqb _ _ (λ e. f (ap (λ (j : ℕ). get_or out j 0) x ∙ e ∙ sym y))))
-
-  -- the slot is open and the component at the source: the guard decides
-  noted_open : (c g k n : ℕ) → c ≡ component_of p t → g ≡ source p t → g ≡ get_or s.locations c 0 → k ≡ slot_of p t → n ≡ transitions p → get_or out k 0 ≡ n
-      → noted p s t out ≡ cond (guard_holds p s (guard_of p t)) (set out k t) out
-  unfolding noted ripe
-  noted_open c g k n xc xg e xk xn h =
-      ap₂ (λ (a b : Bool). cond (a && (b && guard_holds p s (guard_of p t))) (set out (slot_of p t) t) out)
-      (eq-eqb _ _ (ap (λ (j : ℕ). get_or out j 0) (sym xk) ∙ h ∙ xn))
-      (eq-eqb _ _ (sym xg ∙ e ∙ ap (λ (j : ℕ). get_or s.locations j 0) xc))
-      ∙ ap (λ (j : ℕ). cond (guard_holds p s (guard_of p t)) (set out j t) out) (sym xk)
-
-  pub noted_taken : (c g k n : ℕ) → c ≡ component_of p t → g ≡ source p t → g ≡ get_or s.locations c 0 → k ≡ slot_of p t → n ≡ transitions p → get_or out k 0 ≡ n
-      → guard_holds p s (guard_of p t) ≡ true → set out k t ≡ noted p s t out
-  noted_taken c g k n xc xg e xk xn h y = sym (noted_open c g k n xc xg e xk xn h ∙ ap (λ (b : Bool). cond b (set out k t) out) y)
-
-  pub noted_left : (c g k n : ℕ) → c ≡ component_of p t → g ≡ source p t → g ≡ get_or s.locations c 0 → k ≡ slot_of p t → n ≡ transitions p → get_or out k 0 ≡ n
-      → guard_holds p s (guard_of p t) ≡ false → out ≡ noted p s t out
-  noted_left c g k n xc xg e xk xn h y = sym (noted_open c g k n xc xg e xk xn h ∙ ap (λ (b : Bool). cond b (set out k t) out) y)
-
-  pub noted-length : length out ≡ 256 → length (noted p s t out) ≡ 256
+  noted-length : length out ≡ 256 → length (noted p s t out) ≡ 256
   unfolding noted
   noted-length h =
       bool_cases (eqb (get_or out (slot_of p t) 0) (transitions p) && ripe p s t)
@@ -210,11 +179,12 @@ pub chosen_step : (p : Plan) (s : State) (t : ℕ) (out r : List ℕ) → plan_r
     → r ≡ chosen_below p s (t + 1)
 chosen_step p s t out r h l d e = e ∙ ap (noted p s t) d ∙ chosen-next p s t h l ∙ ap (chosen_below p s) (sym (add-one t))
 
-pub chosen_all : (p : Plan) (s : State) → chosen_below p s (transitions p) ≡ chosen_table p s
+pub chosen_all : (p : Plan) (s : State) (n : ℕ) (out : List ℕ) → n ≡ transitions p → out ≡ chosen_below p s n → out ≡ chosen_table p s
 unfolding chosen_below chosen_table chosen
-chosen_all p s =
-    table_same 0 256 (λ k. lowest_or (transitions p) (transitions p) (ready p s (k / 16) (k % 16))) (λ k. chosen p s (k / 16) (k % 16))
-    (λ k h. or_all (transitions p) (ready p s (k / 16) (k % 16)))
+chosen_all p s n out e h =
+    h ∙ ap (chosen_below p s) e
+    ∙ table_same 0 256 (λ k. lowest_or (transitions p) (transitions p) (ready p s (k / 16) (k % 16))) (λ k. chosen p s (k / 16) (k % 16))
+    (λ k l. or_all (transitions p) (ready p s (k / 16) (k % 16)))
 
 -- ---- reading the table
 
@@ -241,60 +211,50 @@ table_in p s i h l out e =
 
 -- ---- the pass for one interaction
 
--- The table when the transitions below n that go through a port of interaction i were considered.
-pub record FoundIn (p : Plan) (s : State) (i : ℕ) (out : List ℕ) (n : ℕ) : Type 0 where
-  pub long : length out ≡ 256
-  pub found : (c : ℕ) → c < components p → takes_part p i c ≡ true → chosen_by p out i c ≡ lowest_or (transitions p) n (ready p s c (port_in p i c))
+-- For each part of interaction i the table has the lowest of the transitions below n that it can use.
+unfoldable pub FoundIn : Plan → State → ℕ → List ℕ → ℕ → Type 0
+FoundIn p s i out n = (c : ℕ) → c < components p → takes_part p i c ≡ true → chosen_by p out i c ≡ lowest_or (transitions p) n (ready p s c (port_in p i c))
 
 module _ (p : Plan) (s : State) (i : ℕ) where
   pub found_none : (out : List ℕ) → plan_refusal p ≡ 0 → i < interactions p → out ≡ replicate 256 (transitions p) → FoundIn p s i out 0
-  found_none out h l e =
-      record {
-        long = ap (λ (q : List ℕ). length q) e ∙ length-replicate 256 (transitions p);
-        found =
-            λ c m t.
-            let w = part_place p i c h l m t in
-            ap (λ (q : List ℕ). get_or q (16 * c + port_in p i c) 0) e
-            ∙ get_or-replicate 256 (16 * c + port_in p i c) (transitions p) 0 (slot_lt c (port_in p i c) w.0 w.1)
-            ∙ sym (or_none (transitions p) (ready p s c (port_in p i c)));
-      }
+  unfolding FoundIn
+  found_none out h l e c m t =
+      let w = part_place p i c h l m t in
+      ap (λ (q : List ℕ). get_or q (16 * c + port_in p i c) 0) e
+      ∙ get_or-replicate 256 (16 * c + port_in p i c) (transitions p) 0 (slot_lt c (port_in p i c) w.0 w.1)
+      ∙ sym (or_none (transitions p) (ready p s c (port_in p i c)))
 
   pub found_all : (out : List ℕ) (n : ℕ) → n ≡ transitions p → FoundIn p s i out n → ChosenIn p s out i
-  unfolding chosen_in chosen
+  unfolding FoundIn chosen_in chosen
   found_all out n e f =
       record {
         used =
             λ c m t.
-            f.found c m t ∙ ap (λ (k : ℕ). lowest_or (transitions p) k (ready p s c (port_in p i c))) e
+            f c m t ∙ ap (λ (k : ℕ). lowest_or (transitions p) k (ready p s c (port_in p i c))) e
             ∙ or_all (transitions p) (ready p s c (port_in p i c));
       }
 
   module _ (out : List ℕ) (t : ℕ) (m : t < transitions p) (f : FoundIn p s i out t) where
     -- transition t was considered
-    pub found_step : (r : List ℕ) → plan_refusal p ≡ 0 → i < interactions p → r ≡ noted p s t out → length r ≡ 256 → FoundIn p s i r (t + 1)
-    found_step r h l e n =
-        record {
-          long = n;
-          found =
-              λ c q u.
-              let w = part_place p i c h l q u in
-              let k = 16 * c + port_in p i c in
-              let g = ready p s c (port_in p i c) in
-              ap (λ (x : List ℕ). get_or x k 0) e
-              ∙ noted-at p s t out f.long (slot_lt _ _ (component_lt p h t m) (port_lt p h t m)) k
-              ∙ ap₂ (λ (x : ℕ) (b : Bool). cond (eqb x (transitions p) && b) t x) (f.found c q u) (sym (ready_at p s t c (port_in p i c) (port_lt p h t m) w.1))
-              ∙ sym (or_next (transitions p) t g m) ∙ ap (λ (x : ℕ). lowest_or (transitions p) x g) (sym (add-one t));
-        }
+    pub found_step : (r : List ℕ) → plan_refusal p ≡ 0 → i < interactions p → length out ≡ 256 → r ≡ noted p s t out → FoundIn p s i r (t + 1)
+    unfolding FoundIn
+    found_step r h l n e c q u =
+        let w = part_place p i c h l q u in
+        let k = 16 * c + port_in p i c in
+        let g = ready p s c (port_in p i c) in
+        ap (λ (x : List ℕ). get_or x k 0) e
+        ∙ noted-at p s t out n (slot_lt _ _ (component_lt p h t m) (port_lt p h t m)) k
+        ∙ ap₂ (λ (x : ℕ) (b : Bool). cond (eqb x (transitions p) && b) t x) (f c q u) (sym (ready_at p s t c (port_in p i c) (port_lt p h t m) w.1))
+        ∙ sym (or_next (transitions p) t g m) ∙ ap (λ (x : ℕ). lowest_or (transitions p) x g) (sym (add-one t))
 
     -- transition t is not of the interaction
     pub found_skip : (port_in p i (component_of p t) ≡ port_of p t → ⊥) → FoundIn p s i out (t + 1)
-    found_skip e =
-        record {
-          long = f.long;
-          found =
-              λ c q u.
-              let g = ready p s c (port_in p i c) in
-              let k = lowest_or (transitions p) t g in
-              f.found c q u ∙ sym (or_next (transitions p) t g m ∙ cond_no (eqb k (transitions p)) (g t) t k (unready p s i t c e))
-              ∙ ap (λ (x : ℕ). lowest_or (transitions p) x g) (sym (add-one t));
-        }
+    unfolding FoundIn
+    found_skip e c q u =
+        let g = ready p s c (port_in p i c) in
+        let k = lowest_or (transitions p) t g in
+        f c q u ∙ sym (or_next (transitions p) t g m ∙ cond_no (eqb k (transitions p)) (g t) t k (unready p s i t c e))
+        ∙ ap (λ (x : ℕ). lowest_or (transitions p) x g) (sym (add-one t))
+
+-- what the functions of choice.rt stand on
+pub ruleset choosing = (laid_accepted, component_lt, port_lt, guard_taken, chosen_none, chosen_step, chosen_all, found_none, found_step, found_skip, found_all)

@@ -3,7 +3,7 @@ use mathlib.Core.Path.{◌≡◌, refl, sym, ap, ap₂, ◌∙◌, subst}
 use Prim.Native.Nat.{ℕ, zero, suc, ◌+◌, ◌-◌, ◌*◌, ◌/◌, ◌%◌, ◌^◌, ◌≤◌, ◌<◌}
 use native.Mathlib.Nat.{zero-add, le_of_suc-le-suc, not-suc-le-zero}
 use native.Mathlib.Omega.{arith}
-use mathlib.Core.Bool.{true, false, not, ◌&&◌}
+use mathlib.Core.Bool.{Bool, true, false, not, ◌&&◌}
 use mathlib.Core.List.{List}
 use lib.Bits.{bit_and}
 use lib.Dec.{ltb, eqb}
@@ -67,9 +67,9 @@ module _ (p : Plan) (a : plan_refusal p ≡ 0) (i : ℕ) (h : i < interactions p
       (λ t. let q : port_in p i c ≡ 255 = eqb-true _ _ (not_no _ t) in omega arith)
 
   -- the row of ports, as the code reads it: where a component takes part its bit is set
-  pub part-bit : (base row : ℕ) → base ≤ 8 → row ≡ u64 p (interaction_at p i + base) → row < 2 ^ 64 → (c : ℕ) → c < 8 → takes_part p i (base + c) ≡ true
+  pub part_bit : (base row : ℕ) → base ≤ 8 → row ≡ u64 p (interaction_at p i + base) → row < 2 ^ 64 → (c : ℕ) → c < 8 → takes_part p i (base + c) ≡ true
       → bit (bit_and (2 ^ 64 - 1 - row) 9259542123273814144) (8 * c + 7) ≡ true
-  part-bit base row b e w c l t =
+  part_bit base row b e w c l t =
       let at = interaction_at p i + base in
       let place : (k : ℕ) → byte p (at + k) ≡ port_in p i (base + k) = λ k. ap (λ (x : ℕ). byte p x) (omega arith) in
       let small : (k : ℕ) → k < 8 → byte p (at + k) < 256 = λ k q. subst (λ (x : ℕ). x < 256) (sym (place k)) (port_byte (base + k) (omega arith)) in
@@ -105,10 +105,10 @@ module _ (p : Plan) (a : plan_refusal p ≡ 0) (i : ℕ) (h : i < interactions p
         (λ y. absurd_bool (every_all 8 (λ c. port_ready p chosen i (0 + c)) (λ c l. every-at (components p) (port_ready p chosen i) y (0 + c) (omega arith))) e) sym
 
     -- all of them are: the second eight decide
-    pub eights : 8 ≤ components p → every 8 (λ c. port_ready p chosen i (0 + c)) ≡ true
-        → every 8 (λ c. port_ready p chosen i (8 + c)) ≡ every (components p) (port_ready p chosen i)
-    eights n e =
-        same_test (every 8 (λ c. port_ready p chosen i (8 + c))) (every (components p) (port_ready p chosen i))
+    pub eights : (r : Bool) → 8 ≤ components p → every 8 (λ c. port_ready p chosen i (0 + c)) ≡ true → r ≡ every 8 (λ c. port_ready p chosen i (8 + c))
+        → r ≡ every (components p) (port_ready p chosen i)
+    eights r n e q =
+        q ∙ same_test (every 8 (λ c. port_ready p chosen i (8 + c))) (every (components p) (port_ready p chosen i))
         (λ y.
         every_all (components p) (port_ready p chosen i) (λ k l.
         let n16 : components p ≤ 16 = (laid_accepted p a).components≤ in

@@ -1,5 +1,4 @@
 pub mod OperatorsHeld
-pub mod ReadBack
 pub mod StackHeld
 pub mod TakenSpans
 pub mod Turns

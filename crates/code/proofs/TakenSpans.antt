@@ -89,13 +89,6 @@ module _ (p : Plan) (a : plan_refusal p ≡ 0) where
         blind = λ e. absurd_bool e refl;
       }
 
--- a span whose record was read
-pub taken_read : (p : Plan) (end : ℕ) (g : Span) (start size : ℕ) → start ≡ g.start → size ≡ g.size → Taken p end g
-    → Taken p end (record { start = start; size = size })
-taken_read p end g start size e f k =
-    subst (λ (x : ℕ). Taken p end (record { start = x; size = size })) (sym e)
-    (subst (λ (y : ℕ). Taken p end (record { start = g.start; size = y })) (sym f) k)
-
 -- ---- what each of its words has
 
 final_stores : (b : Bool) (end : ℕ) → cond b 0 1 ≡ end → b ≡ true → end ≡ 0

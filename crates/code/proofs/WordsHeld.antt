@@ -9,6 +9,7 @@ use lib.IntN.{ℤ, pos}
 use Rattle.semantics.specs.Plan.{max_variables}
 use Rattle.semantics.specs.Signed.{extend, truth}
 use Rattle.semantics.specs.Code.{State, Instruction, push, extend_top, load, store, located, last_port, operator, unknown, instruction, operator_pops, Machine, perform}
+use Rattle.arith.proofs.Signed32.{back32}
 use Rattle.code.specs.Taken.{Fit}
 use Rattle.code.specs.Held.{combined}
 
@@ -132,3 +133,6 @@ action_stores (suc (suc (suc zero))) n d h l f = refl
 action_stores (suc (suc (suc (suc zero)))) n d h l f = let z : ◌≡◌ {A = ℕ} 0 1 = f.0 in absurd (omega arith)
 action_stores (suc (suc (suc (suc (suc zero))))) n d h l f = let z : ◌≡◌ {A = ℕ} 0 1 = f.0 in absurd (omega arith)
 action_stores (suc (suc (suc (suc (suc (suc k)))))) n d h l f = absurd (omega arith)
+
+-- what `read` and `step` stand on
+pub ruleset performing = (back32, fit_push, fit_extend, fit_load, fit_store, fit_located, fit_port, fit_operator, did_push, did_extend, did_load, did_store, did_located, did_port, did_operator, last_known, guard_loads, action_stores)

@@ -1,4 +1,4 @@
--- What the evaluator's arrays stand for: a machine whose stack is a lent array, a depth and the top.
+-- What the evaluator's arrays stand for: a stack that is an array, a depth and the top.
 use Rattle.std.specs.Prelude.{ℕ, zero, suc, List, [], ◌∷◌, get_or, drop, ℤ, pos}
 use Rattle.semantics.specs.Code.{operate, operator_pops, Machine, top}
 
@@ -16,5 +16,6 @@ held a (suc d) t = t ∷ under a d
 abbrev pub combined : ℕ → List ℤ → List ℤ
 combined n xs = operate n (get_or xs 1 (pos 0)) (top xs) ∷ drop (operator_pops n) xs
 
-abbrev pub machine : List ℤ → ℕ → ℤ → List ℤ → Machine
-machine a d t vs = record { stack = held a d t; values = vs }
+-- The machine of a stack and the variables' values.
+abbrev pub machine : List ℤ → List ℤ → Machine
+machine xs vs = record { stack = xs; values = vs }

@@ -1,10 +1,11 @@
 -- The first broken rule, when the plan's own rules come first: what the reading of a lane and a start answer.
-use mathlib.Core.Path.{◌≡◌, refl, sym, ◌∙◌}
+use mathlib.Core.Path.{◌≡◌, refl, sym, ap, ◌∙◌}
 use Prim.Native.Nat.{ℕ, zero, suc}
 use native.Mathlib.Omega.{arith}
 use mathlib.Core.Bool.{true, false}
 use mathlib.Core.List.{List, [], ◌∷◌, ◌++◌}
 use lib.ListN.{length}
+use Rattle.std.proofs.Common.{Result, Ok, Err}
 use Rattle.semantics.specs.Plan.{Plan}
 use Rattle.semantics.specs.Refusal.{Rule, rule, unless, refusal}
 use Rattle.semantics.specs.Rules.{plan_rules, plan_refusal}
@@ -14,6 +15,9 @@ use Rattle.semantics.specs.Calls.{accepted, refused, Outcome, outcome, unless_re
 use Rattle.semantics.proofs.Basics.{eq-eqb, ne_eqb}
 use Rattle.semantics.proofs.Refusing.{none-refused, refusal-after, refused-first}
 use Rattle.semantics.proofs.AcceptedPlan.{plan_numbered}
+use Rattle.plan.specs.declared.refusal.Refusal.{Refusal}
+use Rattle.plan.specs.Numbers.{number, checked_number}
+use Rattle.plan.proofs.Numbering.{above_0}
 
 pub plan_refused : (p : Plan) (qs : List Rule) (n : ℕ) → n ≡ plan_refusal p → (n ≡ 0 → ⊥) → refusal (plan_rules p ++ qs) ≡ n
 unfolding plan_refusal
@@ -22,6 +26,16 @@ plan_refused p qs n e h = refused-first (plan_rules p) qs n (sym e) h
 pub plan_kept : (p : Plan) (qs : List Rule) → plan_refusal p ≡ 0 → refusal (plan_rules p ++ qs) ≡ refusal qs
 unfolding plan_refusal
 plan_kept p qs e = refusal-after (plan_rules p) qs (none-refused (plan_rules p) (plan_numbered p) e)
+
+-- what the plan's check refused is what plan and more rules refuse
+pub plan_refuses : (p : Plan) (qs : List Rule) (c : Result (Unit {0}) Refusal) (r : Refusal) → checked_number c ≡ plan_refusal p → c ≡ Err r
+    → number r ≡ refusal (plan_rules p ++ qs)
+plan_refuses p qs c r e was =
+    sym (plan_refused p qs (number r) (ap (λ (x : Result (Unit {0}) Refusal). checked_number x) (sym was) ∙ e) (above_0 r))
+
+-- and what it let pass is accepted
+pub plan_accepts : (p : Plan) (c : Result (Unit {0}) Refusal) (u : Unit {0}) → checked_number c ≡ plan_refusal p → c ≡ Ok u → plan_refusal p ≡ 0
+plan_accepts p c u e was = sym e ∙ ap (λ (x : Result (Unit {0}) Refusal). checked_number x) was
 
 -- ---- 11 to 14, of an accepted plan
 
@@ -61,9 +75,10 @@ start-refused : (p : Plan) (b : Image) (n : ℕ) → refusal (start_rules p b) �
 unfolding start
 start-refused p b n e h = rw e (unless_refused_some n b _ h)
 
-pub start_plan : (p : Plan) (b : Image) (n : ℕ) → n ≡ plan_refusal p → (n ≡ 0 → ⊥) → start p b ≡ outcome (refused n) b
+pub start_refuses : (p : Plan) (b : Image) (c : Result (Unit {0}) Refusal) (r : Refusal) → checked_number c ≡ plan_refusal p → c ≡ Err r
+    → start p b ≡ outcome (refused (number r)) b
 unfolding start_rules
-start_plan p b n e h = start-refused p b n (plan_refused p _ n e h) h
+start_refuses p b c r e was = start-refused p b (number r) (sym (plan_refuses p _ c r e was)) (above_0 r)
 
 module _ (p : Plan) (b : Image) (h : plan_refusal p ≡ 0) where
   pub start_11 : (length b ≡ image_length → ⊥) → start p b ≡ outcome (refused 11) b

@@ -1,19 +1,30 @@
--- 01's kind, number and bits of each case of the enum that a call answers.
+-- 01's kind, number and bits of what a call gives.
+use Rattle.std.specs.Prelude.{ℕ, Result, Ok, Err}
 use Rattle.semantics.specs.Calls as calls
-use Rattle.semantics.specs.Log.{wrong}
+use Rattle.plan.specs.declared.refusal.Refusal.{Refusal}
+use Rattle.plan.specs.Numbers.{number}
 use Rattle.engine.specs.declared.answer.Answer.{Answer}
-use Rattle.engine.specs.declared.answer.Answer.TheVariants.{Accepted, Committed, Cancelled, Stalled, Penned, Refused, Wrong}
-use Rattle.engine.specs.declared.answer.Reply.{Reply}
+use Rattle.engine.specs.declared.answer.Answer.TheVariants.{Accepted, Committed, Cancelled, Stalled, Penned}
 
-unfoldable pub answer_of : Answer → calls.Answer
-answer_of Accepted = calls.accepted
-answer_of (Committed i) = calls.committed i
-answer_of (Cancelled i) = calls.cancelled i
-answer_of Stalled = calls.stalled
-answer_of Penned = calls.penned
-answer_of (Refused n) = calls.refused n
-answer_of (Wrong n) = wrong n 0
+-- A refusal with its number, or what is said of what was given.
+abbrev pub unless_err : {A : Type 0} → (A → calls.Answer) → Result A Refusal → calls.Answer
+unless_err said (Ok a) = said a
+unless_err said (Err r) = calls.refused (number r)
 
--- The answer of an offered call or of the check of a log: the enum's, with the bits.
-abbrev pub reply_of : Reply → calls.Answer
-reply_of r = record { kind = (answer_of r.answer).kind; number = (answer_of r.answer).number; bits = r.bits }
+abbrev pub answered : Answer → calls.Answer
+answered Accepted = calls.accepted
+answered (Committed i) = calls.committed i
+answered (Cancelled i) = calls.cancelled i
+answered Stalled = calls.stalled
+answered Penned = calls.penned
+
+abbrev pub answer_of : Result Answer Refusal → calls.Answer
+answer_of = unless_err answered
+
+-- Of an offered call, which gives the moves.
+abbrev pub reply_of : Result ℕ Refusal → calls.Answer
+reply_of = unless_err calls.offers
+
+-- Of a test whether a call is refused.
+abbrev pub passing : {A : Type 0} → Result A Refusal → calls.Answer
+passing = unless_err (λ _. calls.accepted)

@@ -1,38 +1,31 @@
-// What a call answers.
+// What a call answers that is not refused.
 ghost use Rattle.std.specs.Prelude.{◌≡◌, ◌<◌};
 ghost use Rattle.semantics.specs.Calls.{packed};
 ghost use Rattle.engine.specs.Answers.{answer_of};
 
-// The interaction for a committed or cancelled move, the number for a refusal, the cause for a log with a wrong entry.
-#[derive(Clone, Copy)]
+use plan::refusal::Refusal;
+
+// The interaction for a committed or cancelled move.
+#[derive(Clone, Copy, PartialEq, Eq, Debug)]
 pub enum Answer {
     Accepted,
     Committed(u8),
     Cancelled(u8),
     Stalled,
     Penned,
-    Refused(u8),
-    Wrong(u8),
 }
 
-// An answer and the 64 bits beside it, which a second call returns: the moves on offer, or the index of a wrong entry; 0 where there are none.
-#[derive(Clone, Copy)]
-pub struct Reply {
-    pub answer: Answer,
-    pub bits: u64,
-}
-
-// The answer as one number, kind * 65536 + number; the kind is below 7.
-pub fn packed(a: Answer) -> u32
-    ensures { (result ≡ packed (answer_of a)) × (result < 458752) }
+// The answer as one number, kind * 65536 + number; the kind is below 7. No From: Result and u32 are both std's.
+#[tactic(auto, unfolding(semantics::specs::Calls::packed))]
+pub fn packed(answer: Result<Answer, Refusal>) -> u32
+    ensures { (result ≡ packed (answer_of answer)) × (result < 458752) }
 {
-    match a {
-        Answer::Accepted => 0,
-        Answer::Committed(i) => 65536 + i as u32,
-        Answer::Cancelled(i) => 131072 + i as u32,
-        Answer::Stalled => 196608,
-        Answer::Penned => 262144,
-        Answer::Refused(n) => 327680 + n as u32,
-        Answer::Wrong(n) => 393216 + n as u32,
+    match answer {
+        Ok(Answer::Accepted) => 0,
+        Ok(Answer::Committed(i)) => 65536 + u32::from(i),
+        Ok(Answer::Cancelled(i)) => 131072 + u32::from(i),
+        Ok(Answer::Stalled) => 196608,
+        Ok(Answer::Penned) => 262144,
+        Err(refusal) => 327680 + u32::from(u8::from(refusal)),
     }
 }

@@ -5,58 +5,34 @@ ghost use Rattle.semantics.specs.Plan.{max_components, max_variables, max_oracle
 ghost use Rattle.semantics.specs.Rules.{plan_refusal};
 ghost use Rattle.semantics.specs.Move.{initial_state};
 ghost use Rattle.semantics.specs.Image.{image_length, oracles_place, value_place, head, value_bytes, with_marks, configuration_of, marks_of, image as image_of};
-ghost use Rattle.lane.specs.Runs.{run_of, lent, Sized};
+ghost use Rattle.layout.specs.Runs.{configuration_in};
 
 use arith::bytes::{i32_at, put_i32};
 use layout::header::{
     component_byte, components, first_oracle_byte, interaction_byte, number_byte, variable_byte,
     variables,
 };
-use layout::image::{FORM, LAST_PORTS, LOCATIONS, MARKS, ORACLES, value_at};
+use layout::image::{FORM, Image, LAST_PORTS, LOCATIONS, MARKS, ORACLES, value_at};
 use layout::records::{START_LOCATION, START_VALUE, component_at, variable_at};
+use layout::run::{Run, RunState};
 use words::bytes::{put_bytes, put_u64, u64_at};
 
-// Where a run stands: each component's location and last port, the variables, the oracles' states, the moves crossed off.
-#[derive(Drop)]
-pub struct Run {
-    pub locations: [u8; 16],
-    pub last_ports: [u8; 16],
-    pub values: [i32; 64],
-    pub oracles: [u8; 4],
-    pub marks: u64,
-}
-
-// The sixteen bytes from a place on.
-fn bytes16(image: &[u8], at: usize) -> [u8; 16]
-    requires { at + max_components ≤ length image.now }
-    ensures { result ≡ take max_components (drop at image.now) }
+// The N bytes from a place on.
+fn bytes_at<const N: usize>(image: &[u8], at: usize) -> [u8; N]
+    requires { at + N ≤ length image.now }
+    ensures { result ≡ take N (drop at image.now) }
 {
-    let mut out = [0u8; 16];
-    for i in 0..16 {
-        out[i] = image[at + i];
-    }
+    let mut out = [0; N];
+    out.copy_from_slice(&image[at..at + N]);
     out
 }
 
-// The states of the four oracles.
-fn bytes4(image: &[u8]) -> [u8; 4]
-    requires { length image.now ≡ image_length }
-    ensures { result ≡ take max_oracles (drop oracles_place image.now) }
-{
-    [
-        image[ORACLES],
-        image[ORACLES + 1],
-        image[ORACLES + 2],
-        image[ORACLES + 3],
-    ]
-}
-
 // The sixty-four values of an image.
-fn values64(image: &[u8]) -> [i32; 64]
-    requires { length image.now ≡ image_length }
+#[tactic(auto, unfolding(words::proofs::Loops::filled, semantics::specs::Bytes::table))]
+fn values64(image: &Image) -> [i32; 64]
     ensures { result ≡ (configuration_of image.now).state.values }
 {
-    let mut out = [0i32; 64];
+    let mut out = [0; 64];
     for v in 0..64 {
         out[v] = i32_at(image, value_at(v));
     }
@@ -64,27 +40,25 @@ fn values64(image: &[u8]) -> [i32; 64]
 }
 
 // The run that an image holds.
-pub fn load(image: &[u8]) -> Run
-    requires { length image.now ≡ image_length }
-    ensures { result ≡ run_of (configuration_of image.now) (marks_of image.now) }
+#[tactic(auto, unfolding(semantics::specs::Image::configuration_of, semantics::specs::Image::marks_of))]
+pub fn load(image: &Image) -> Run
+    ensures { (configuration_in result ≡ configuration_of image.now) × (result.marks ≡ marks_of image.now) }
 {
-    let locations = bytes16(image, LOCATIONS);
-    let last_ports = bytes16(image, LAST_PORTS);
-    let values = values64(image);
-    let oracles = bytes4(image);
     Run {
-        locations: locations,
-        last_ports: last_ports,
-        values: values,
-        oracles: oracles,
+        state: RunState {
+            locations: bytes_at(image, LOCATIONS),
+            last_ports: bytes_at(image, LAST_PORTS),
+            values: values64(image),
+        },
+        oracles: bytes_at(image, ORACLES),
         marks: u64_at(image, MARKS),
     }
 }
 
 // Writes the first sixteen bytes of an image.
-fn put_head(plan: &[u8], image: &mut [u8], oracles: [u8; 4])
+#[tactic(auto, using(layout::proofs::Sections::laid_accepted))]
+fn put_head(plan: &[u8], image: &mut Image, oracles: [u8; 4])
     requires plan_value { plan_refusal plan.now ≡ 0 }
-    requires image_len { length image.old ≡ image_length }
     ensures { image.new ≡ splice image.old 0 (head plan.now oracles) }
 {
     let rest = [
@@ -106,8 +80,7 @@ fn put_head(plan: &[u8], image: &mut [u8], oracles: [u8; 4])
 }
 
 // Writes the values of an image.
-fn put_values(image: &mut [u8], values: &[i32; 64])
-    requires image_len { length image.old ≡ image_length }
+fn put_values(image: &mut Image, values: &[i32; 64])
     requires values_len { length values.now ≡ max_variables }
     ensures { image.new ≡ splice image.old (value_place 0) (value_bytes values.now) }
 {
@@ -116,77 +89,67 @@ fn put_values(image: &mut [u8], values: &[i32; 64])
     }
 }
 
-// Writes the image of a configuration, with these moves crossed off.
-pub fn store<'a>(
-    plan: &[u8],
-    image: &mut [u8],
-    locations: &'a [u8; 16],
-    ports: &'a [u8; 16],
-    values: &'a [i32; 64],
-    oracles: [u8; 4],
-    crossed: u64,
-)
+// Writes the image of a run, from a copy of it: one in place could overlap the image for all that the compiler knows, and its values would be moved one by one.
+#[tactic(auto, using(layout::proofs::Sections::laid_accepted))]
+pub fn store(plan: &[u8], image: &mut Image, run: &Run)
     requires plan_value { plan_refusal plan.now ≡ 0 }
-    requires image_len { (length image.old ≡ image_length) × Sized locations.now ports.now values.now }
-    ensures { image.new ≡ image_of plan.now (lent locations.now ports.now values.now oracles) crossed }
+    ensures { image.new ≡ image_of plan.now (configuration_in run.now) run.now.marks }
 {
-    let places = *locations;
-    let last = *ports;
-    let numbers = *values;
-    put_head(plan, image, oracles);
-    put_u64(image, MARKS, crossed);
-    put_bytes(image, LOCATIONS, &places);
-    put_bytes(image, LAST_PORTS, &last);
-    put_values(image, &numbers);
+    let run = *run;
+    put_head(plan, image, run.oracles);
+    put_u64(image, MARKS, run.marks);
+    put_bytes(image, LOCATIONS, &run.state.locations);
+    put_bytes(image, LAST_PORTS, &run.state.last_ports);
+    put_values(image, &run.state.values);
 }
 
 // Writes the marks of an image, eight bytes and no other.
-pub fn put_marks(image: &mut [u8], marks: u64)
-    requires { length image.old ≡ image_length }
+#[tactic(auto, using(crate::proofs::Writing::marks_put))]
+pub fn put_marks(image: &mut Image, marks: u64)
     ensures { image.new ≡ with_marks image.old marks }
 {
     put_u64(image, MARKS, marks);
 }
 
 // Each component's starting location, 0 past the last component.
+#[tactic(auto, using(layout::proofs::Sections::laid_accepted), unfolding(words::proofs::Loops::filled, semantics::specs::Bytes::table, semantics::specs::Move::initial_state))]
 fn start_locations(plan: &[u8]) -> [u8; 16]
     requires { plan_refusal plan.now ≡ 0 }
     ensures { result ≡ (initial_state plan.now).locations }
 {
-    let count = components(plan);
-    let mut out = [0u8; 16];
-    for c in 0..count {
+    let mut out = [0; 16];
+    for c in 0..components(plan) {
         out[c] = plan[component_at(plan, c) + START_LOCATION];
     }
     out
 }
 
 // Each variable's starting value, 0 past the last variable.
+#[tactic(auto, using(layout::proofs::Sections::laid_accepted), unfolding(words::proofs::Loops::filled, semantics::specs::Bytes::table, semantics::specs::Move::initial_state))]
 fn start_values(plan: &[u8]) -> [i32; 64]
     requires { plan_refusal plan.now ≡ 0 }
     ensures { result ≡ (initial_state plan.now).values }
 {
-    let count = variables(plan);
-    let mut out = [0i32; 64];
-    for v in 0..count {
+    let mut out = [0; 64];
+    for v in 0..variables(plan) {
         out[v] = i32_at(plan, variable_at(plan, v) + START_VALUE);
     }
     out
 }
 
 // The run as it starts, its first event not yet read.
+#[tactic(auto, using(layout::proofs::Sections::laid_accepted), unfolding(semantics::specs::Bytes::table, semantics::specs::Move::initial_state))]
 pub fn starting(plan: &[u8]) -> Run
     requires { plan_refusal plan.now ≡ 0 }
-    ensures { result ≡ run_of (record { state = initial_state plan.now; oracles = start_states plan.now }) 0 }
+    ensures { (configuration_in result ≡ record { state = initial_state plan.now; oracles = start_states plan.now }) × (result.marks ≡ 0) }
 {
-    let locations = start_locations(plan);
-    let values = start_values(plan);
-    let first = first_oracle_byte(plan);
     Run {
-        locations: locations,
-        last_ports: [255; 16],
-        values: values,
-        oracles: [first, 0, 0, 0],
+        state: RunState {
+            locations: start_locations(plan),
+            last_ports: [255; 16],
+            values: start_values(plan),
+        },
+        oracles: [first_oracle_byte(plan), 0, 0, 0],
         marks: 0,
     }
 }

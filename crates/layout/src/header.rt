@@ -4,7 +4,7 @@ ghost use Rattle.semantics.specs.Bytes.{u32};
 ghost use Rattle.semantics.specs.Plan.{number_byte, reserved_byte, total_length, components, variables, transitions, max_oracles, interactions, propositions, first_oracle, added_oracles, oracles, oracle_states, states_before, code_words, letters, section};
 ghost use Rattle.layout.specs.Laid.{Laid};
 
-use words::bytes::{field, u16_at, u32_at, wide};
+use words::bytes::{field, u16_at, u32_at};
 
 // How long the header is.
 pub const HEADER: usize = 48;
@@ -25,6 +25,7 @@ pub fn reserved_byte(plan: &[u8], k: usize) -> u8
     plan[46 + k]
 }
 
+// One name for each field of two bytes: its contract has that name, and a const parameter would put a number in its place at each call.
 pub fn total_length(plan: &[u8]) -> usize
     requires { 48 ≤ length plan.now }
     ensures { (result ≡ total_length plan.now) × (result < 65536) }
@@ -94,7 +95,7 @@ pub fn added_oracles(plan: &[u8]) -> usize
     requires { 48 ≤ length plan.now }
     ensures { (result ≡ added_oracles plan.now) × (result < 256) }
 {
-    wide(plan[42])
+    usize::from(plan[42])
 }
 
 // How many oracles are added, and the states of each, as one number.
@@ -114,6 +115,7 @@ pub fn oracles(plan: &[u8]) -> usize
 }
 
 // How many states oracle n has.
+#[tactic(auto, using(crate::proofs::Places::first_states, crate::proofs::Places::added_states))]
 pub fn oracle_states(plan: &[u8], n: usize) -> usize
     requires { (48 ≤ length plan.now) × (n < max_oracles) }
     ensures { (result ≡ oracle_states plan.now n) × (result < 65536) }
@@ -121,10 +123,11 @@ pub fn oracle_states(plan: &[u8], n: usize) -> usize
     if n == 0 {
         return field(plan, 20);
     }
-    wide(plan[42 + n])
+    usize::from(plan[42 + n])
 }
 
 // How many states all oracles have together.
+#[tactic(auto, using(crate::proofs::Places::first_alone), unfolding(semantics::specs::Plan::states_before))]
 pub fn all_states(plan: &[u8]) -> usize
     requires { 48 ≤ length plan.now }
     ensures { (result ≡ states_before plan.now max_oracles) × (result < 262144) }
@@ -145,6 +148,7 @@ pub fn section(plan: &[u8], n: usize) -> usize
 }
 
 // How many letters there are.
+#[tactic(auto, using(words::proofs::BitLaws::one_shl, crate::proofs::Places::power_low))]
 pub fn letters(plan: &[u8]) -> usize
     requires { (48 ≤ length plan.now) × (propositions plan.now ≤ 4) }
     ensures { (result ≡ letters plan.now) × (result ≤ 16) }
@@ -153,6 +157,7 @@ pub fn letters(plan: &[u8]) -> usize
 }
 
 // The counts that an image holds, as its bytes: each is below 256.
+#[tactic(auto, unfolding(semantics::specs::Bytes::u16))]
 pub fn component_byte(plan: &[u8]) -> u8
     requires { Laid plan.now }
     ensures { result ≡ components plan.now }
@@ -160,6 +165,7 @@ pub fn component_byte(plan: &[u8]) -> u8
     plan[10]
 }
 
+#[tactic(auto, unfolding(semantics::specs::Bytes::u16))]
 pub fn variable_byte(plan: &[u8]) -> u8
     requires { Laid plan.now }
     ensures { result ≡ variables plan.now }
@@ -167,6 +173,7 @@ pub fn variable_byte(plan: &[u8]) -> u8
     plan[12]
 }
 
+#[tactic(auto, unfolding(semantics::specs::Bytes::u16))]
 pub fn interaction_byte(plan: &[u8]) -> u8
     requires { Laid plan.now }
     ensures { result ≡ interactions plan.now }
@@ -175,6 +182,7 @@ pub fn interaction_byte(plan: &[u8]) -> u8
 }
 
 // The first oracle state as an image's byte: it is below 32.
+#[tactic(auto, unfolding(semantics::specs::Bytes::u16))]
 pub fn first_oracle_byte(plan: &[u8]) -> u8
     requires { (Laid plan.now) × (first_oracle plan.now < 256) }
     ensures { result ≡ first_oracle plan.now }

@@ -6,6 +6,9 @@ ghost use Rattle.semantics.specs.Image.{image_length, value_place};
 // The length of an image.
 pub const LENGTH: usize = 312;
 
+// The bytes of an image.
+pub type Image = [u8; LENGTH];
+
 // What the head holds after the letters: form, counts, the oracles' states, the plan's number.
 pub const FORM: usize = 4;
 

@@ -13,6 +13,7 @@ pub const PORTS: usize = 2;
 
 pub const COMPONENT_ZERO: usize = 3;
 
+// One name for each kind of record here and below: its contract has that name, and a const parameter would put a number in its place at each call.
 pub fn component_at(plan: &[u8], c: usize) -> usize
     requires { Laid plan.now × (c < components plan.now) }
     ensures { (result ≡ component_at plan.now c) × (result + 4 ≤ length plan.now) }
@@ -80,6 +81,7 @@ pub fn proposition_at(plan: &[u8], k: usize) -> usize
 // A row of the oracles' tables: a state's verdict, then the next state for each letter. The rows of all oracles are counted through.
 pub const NEXT: usize = 1;
 
+#[tactic(auto, using(crate::proofs::Places::rows_low, crate::proofs::Places::row_in))]
 pub fn row_at(plan: &[u8], row: usize) -> usize
     requires { Laid plan.now × (row < states_before plan.now max_oracles) }
     ensures { (result ≡ row_at plan.now row) × (result + (1 + letters plan.now) ≤ length plan.now) }

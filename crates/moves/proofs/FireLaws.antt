@@ -11,15 +11,15 @@ use lib.Seq.{get_or-set_same, get_or-set_other}
 use lib.Dec.{ltb}
 use lib.IntN.{ℤ}
 use Rattle.semantics.specs.Bytes.{table}
-use Rattle.semantics.specs.Plan.{max_components, max_variables, Plan, components, transitions, interactions, span_at, transition_at, destination, action_of, interaction_at, port_in, takes_part, transfer_of}
+use Rattle.semantics.specs.Plan.{Plan, components, transitions, interactions, span_at, destination, action_of, interaction_at, port_in, takes_part, transfer_of}
 use Rattle.semantics.specs.Code.{State, acted, site}
 use Rattle.semantics.specs.Rules.{plan_refusal}
 use Rattle.semantics.specs.Move.{chosen_in, enabled, acted_below, fired}
-use Rattle.semantics.proofs.Basics.{length-table, bool_cases, below_suc, ltb-true, ltb-false, eq-eqb, ne_eqb, table_is}
+use Rattle.semantics.proofs.Basics.{bool_cases, below_suc, ltb-true, ltb-false, eq-eqb, ne_eqb, table_is}
 use Rattle.semantics.proofs.OneMove.{uses}
 use Rattle.layout.proofs.Sections.{laid_accepted}
+use Rattle.code.proofs.TakenSpans.{transfer_taken, action_taken}
 use Rattle.choices.specs.Choices.{chosen_by, ChosenIn}
-use Rattle.lane.specs.Runs.{Sized}
 use Rattle.moves.specs.Parts.{AllChosen, act_part, acts_below, set_where, set_below}
 use Rattle.choices.proofs.PlanLaws.{part_lt}
 
@@ -41,7 +41,7 @@ set_where_at true l k x h = get_or-set_same l k x 0 h
 set_where_at false l k x h = refl
 
 module _ (f : ℕ → Bool) (g : ℕ → ℕ) (l : List ℕ) where
-  set_below_length : (n : ℕ) → length (set_below f g l n) ≡ length l
+  pub set_below_length : (n : ℕ) → length (set_below f g l n) ≡ length l
   unfolding set_below
   set_below_length zero = refl
   set_below_length (suc n) = set_where_length (f n) (set_below f g l n) n (g n) ∙ set_below_length n
@@ -83,60 +83,57 @@ module _ (f : ℕ → Bool) (g : ℕ → ℕ) (l : List ℕ) where
           bool_cases (ltb k n) (λ z. set_below_in n k (omega arith) (ltb-true k n z) ∙ rw t refl)
           (λ z. set_below_over n k (ltb-false k n z) ∙ rw t refl)
 
--- one place more
+-- none yet, and one place more
+pub set_below_none : (f : ℕ → Bool) (g : ℕ → ℕ) (l : List ℕ) → set_below f g l 0 ≡ l
+unfolding set_below
+set_below_none f g l = refl
+
 pub set_below_next : (f : ℕ → Bool) (g : ℕ → ℕ) (l₀ l r : List ℕ) (n : ℕ) → l ≡ set_below f g l₀ n → r ≡ set_where (f n) l n (g n) → r ≡ set_below f g l₀ (n + 1)
 unfolding set_below
 set_below_next f g l₀ l r n e d = d ∙ ap (λ (x : List ℕ). set_where (f n) x n (g n)) e ∙ ap (set_below f g l₀) (sym (add-one n))
 
 -- ---- one part
 
--- a port other than 255 is a part
-pub takes_part_lem : (p : Plan) (i c port : ℕ) → port ≡ port_in p i c → (port ≡ 255 → ⊥) → takes_part p i c ≡ true
+-- a port is below 16, and 255 is none
+takes_part_lem : (p : Plan) (i c q : ℕ) → q ≡ port_in p i c → q < 16 → takes_part p i c ≡ true
 unfolding takes_part
-takes_part_lem p i c port e h = ap not (ne_eqb (port_in p i c) 255 (λ q. h (e ∙ q)))
+takes_part_lem p i c q e h = ap not (ne_eqb (port_in p i c) 255 (λ d. absurd (omega arith)))
 
-pub takes_none : (p : Plan) (i c port : ℕ) → port ≡ port_in p i c → port ≡ 255 → takes_part p i c ≡ false
+takes_none : (p : Plan) (i c : ℕ) → port_in p i c ≡ 255 → takes_part p i c ≡ false
 unfolding takes_part
-takes_none p i c port e h = ap not (eq-eqb (port_in p i c) 255 (sym e ∙ h))
+takes_none p i c h = ap not (eq-eqb (port_in p i c) 255 h)
 
-pub part_port_lt : (p : Plan) (i c port : ℕ) → plan_refusal p ≡ 0 → i < interactions p → c < 16 → port ≡ port_in p i c → (port ≡ 255 → ⊥) → port < 16
-part_port_lt p i c port a h l e d = subst (λ (x : ℕ). x < 16) (sym e) (part_lt p a i c h l (takes_part_lem p i c port e d)).1
+-- a place is written where the component takes part
+pub set_where_none : (p : Plan) (i c : ℕ) (l : List ℕ) (k x : ℕ) → port_in p i c ≡ 255 → set_where (takes_part p i c) l k x ≡ l
+unfolding set_where
+set_where_none p i c l k x h = rw (takes_none p i c h) refl
 
--- what the code knows of a component that takes part: its port and the transition that the table has for it
-pub record Takes (p : Plan) (chosen : List ℕ) (i c t : ℕ) : Type 0 where
-  pub part : takes_part p i c ≡ true
-  pub is_chosen : t ≡ chosen_by p chosen i c
-  pub known : t < transitions p
+pub set_where_part : (p : Plan) (i c : ℕ) (l : List ℕ) (k x : ℕ) → port_in p i c < 16 → set_where (takes_part p i c) l k x ≡ set l k x
+unfolding set_where
+set_where_part p i c l k x h = rw (takes_part_lem p i c (port_in p i c) refl h) refl
 
-pub takes : (p : Plan) (chosen : List ℕ) (i c port t : ℕ) → AllChosen p chosen i → c < 16 → port ≡ port_in p i c → (port ≡ 255 → ⊥)
-    → t ≡ get_or chosen (16 * c + port) 0 → Takes p chosen i c t
-takes p chosen i c port t k l e h d =
-    let u : takes_part p i c ≡ true = takes_part_lem p i c port e h in
-    let v : t ≡ chosen_by p chosen i c = d ∙ ap (λ (q : ℕ). get_or chosen (16 * c + q) 0) e in
-    record { part = u; is_chosen = v; known = subst (λ (x : ℕ). x < transitions p) (sym v) (k.known c l u) }
+-- the table has a transition for it
+pub chosen_known : (p : Plan) (chosen : List ℕ) (i c : ℕ) → AllChosen p chosen i → c < 16 → port_in p i c < 16 → get_or chosen (16 * c + port_in p i c) 0 < transitions p
+chosen_known p chosen i c k l h = k.known c l (takes_part_lem p i c (port_in p i c) refl h)
 
--- the action of a part, and of a component that takes none
-pub acts_part : (p : Plan) (chosen : List ℕ) (i c t at : ℕ) (l q : List ℕ) (v w : List ℤ) → Takes p chosen i c t → at ≡ transition_at p t
-    → w ≡ (acted p (site l q v) (span_at p (at + 8))).values → site l q w ≡ act_part p chosen i c (site l q v)
-unfolding act_part acted
-acts_part p chosen i c t at l q v w k e d =
-    ap (site l q) (d ∙ ap (λ (x : ℕ). (acted p (site l q v) (span_at p (x + 8))).values) (e ∙ ap (transition_at p) k.is_chosen)) ∙ sym (rw k.part refl)
-
-pub acts_none : (p : Plan) (chosen : List ℕ) (i c : ℕ) (s : State) → takes_part p i c ≡ false → s ≡ act_part p chosen i c s
+-- and its action is that one's
+pub act_part_none : (p : Plan) (chosen : List ℕ) (i c : ℕ) (s : State) → port_in p i c ≡ 255 → act_part p chosen i c s ≡ s
 unfolding act_part
-acts_none p chosen i c s t = sym (rw t refl)
+act_part_none p chosen i c s h = rw (takes_none p i c h) refl
+
+pub act_part_some : (p : Plan) (chosen : List ℕ) (i c : ℕ) (s : State) → port_in p i c < 16
+    → act_part p chosen i c s ≡ site s.locations s.last_ports (acted p s (action_of p (chosen_by p chosen i c))).values
+unfolding act_part acted
+act_part_some p chosen i c s h = rw (takes_part_lem p i c (port_in p i c) refl h) refl
+
+-- none yet, and one component more
+pub acts_none : (p : Plan) (chosen : List ℕ) (i : ℕ) (s : State) → acts_below p chosen i 0 s ≡ s
+unfolding acts_below
+acts_none p chosen i s = refl
 
 pub acts_next : (p : Plan) (chosen : List ℕ) (i n : ℕ) (s₀ s r : State) → s ≡ acts_below p chosen i n s₀ → r ≡ act_part p chosen i n s → r ≡ acts_below p chosen i (n + 1) s₀
 unfolding acts_below
 acts_next p chosen i n s₀ s r e d = d ∙ ap (act_part p chosen i n) e ∙ ap (λ (k : ℕ). acts_below p chosen i k s₀) (sym (add-one n))
-
-pub set-yes : (b : Bool) (l : List ℕ) (k x y : ℕ) → b ≡ true → x ≡ y → set l k x ≡ set_where b l k y
-unfolding set_where
-set-yes b l k x y t e = ap (set l k) e ∙ sym (rw t refl)
-
-pub set_no : (b : Bool) (l : List ℕ) (k x : ℕ) → b ≡ false → l ≡ set_where b l k x
-unfolding set_where
-set_no b l k x t = sym (rw t refl)
 
 -- ---- the move
 
@@ -181,16 +178,5 @@ module _ (p : Plan) (s : State) (i : ℕ) (chosen : List ℕ) (a : plan_refusal 
       (d ∙ ap (λ (u : List ℤ). acts_below p chosen i (components p) (site s.locations s.last_ports u))
       (e ∙ ap (λ (j : ℕ). (acted p s (span_at p (j + 20))).values) b) ∙ acts_acted (components p) n)
 
--- arrays that hold the state after a move, with room for all values
-pub sized_fired : (p : Plan) (s : State) (i : ℕ) (l q : List ℕ) (v : List ℤ) → site l q v ≡ fired p s i → length v ≡ max_variables → Sized l q v
-unfolding fired
-sized_fired p s i l q v e h =
-    record {
-      locations_long =
-          ap (λ (x : State). length x.locations) e
-          ∙ length-table max_components (λ c. cond (takes_part p i c) (destination p (chosen_in p s i c)) (get_or s.locations c 0));
-      ports_long =
-          ap (λ (x : State). length x.last_ports) e
-          ∙ length-table max_components (λ c. cond (takes_part p i c) (port_in p i c) (get_or s.last_ports c 0));
-      values_long = h;
-    }
+-- ---- what the functions of fire.rt stand on
+pub ruleset firing = (laid_accepted, transfer_taken, action_taken, chosen_known, act_part_none, act_part_some, set_where_none, set_where_part, acts_none, acts_next, set_below_none, set_below_next, set_below_length, all_chosen)

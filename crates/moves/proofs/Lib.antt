@@ -1,4 +1,3 @@
 pub mod FireLaws
-pub mod Judging
 pub mod SearchLaws
 pub mod SeekLaws

@@ -1,34 +1,24 @@
--- A state in lent arrays, and the oracles' beside it: whether the configuration is good, and that the arrays are of a state's size. A move that lies below one that
+-- Whether a configuration is good, by its oracles. A move that lies below one that
 -- leads to a verdict, by the mask of the enabled ones above it.
 use mathlib.Core.Path.{◌≡◌, refl, sym, ap, ◌∙◌}
 use Prim.Native.Nat.{ℕ, ◌≤◌, ◌<◌}
 use native.Mathlib.Nat.{le_trans}
-use mathlib.Core.Bool.{true, false, not, ◌&&◌}
-use mathlib.Core.List.{List}
-use lib.ListN.{length}
-use lib.IntN.{ℤ}
+use mathlib.Core.Bool.{Bool, true, false, not, ◌&&◌}
 use Rattle.semantics.specs.Bytes.{implies, every, bit, mask}
 use Rattle.semantics.specs.Plan.{Plan, interactions, rank_row, below}
 use Rattle.semantics.specs.Move.{Configuration, enabled, after, reaches, good, leads_above}
-use Rattle.semantics.specs.Code.{State, site}
 use Rattle.semantics.proofs.Basics.{bool_cases, absurd_bool, same_test, not_yes, and_both, both_and, implies-yes, every_all, every_fails}
 use Rattle.semantics.proofs.Masks.{bit-zero, bit_mask, mask-holds}
 use Rattle.semantics.proofs.Ranking.{leads_above_exactly}
-use Rattle.lane.specs.Runs.{Sized}
 
 -- a configuration is good by the states of its oracles
 pub ends_good : (p : Plan) (c d : Configuration) → c ≡ d → reaches p 2 c.oracles ≡ good p d
 unfolding good
 ends_good p c d e = ap (λ (x : Configuration). reaches p 2 x.oracles) e
 
--- arrays that hold the same state are of the same size
-pub sized_same : (l q : List ℕ) (v : List ℤ) (s : State) → site l q v ≡ s → Sized s.locations s.last_ports s.values → Sized l q v
-sized_same l q v s e h =
-    record {
-      locations_long = ap (λ (x : State). length x.locations) e ∙ h.locations_long;
-      ports_long = ap (λ (x : State). length x.last_ports) e ∙ h.ports_long;
-      values_long = ap (λ (x : State). length x.values) e ∙ h.values_long;
-    }
+-- a move does not lead to the verdict
+abbrev pub falls_short : Plan → ℕ → Configuration → ℕ → Bool
+falls_short p v c j = not (reaches p v (after p c j).oracles)
 
 -- the row of the ranks is 0: no move that leads to a verdict lies above
 pub none_above : (p : Plan) (v : ℕ) (c : Configuration) (i : ℕ) → rank_row p i ≡ 0 → false ≡ leads_above p v c i

@@ -2,10 +2,12 @@
 use mathlib.Core.Path.{◌≡◌, refl, sym, ap, ◌∙◌, subst}
 use mathlib.Core.Logic.{◌⊎◌, inl, inr, ⊎_elim}
 use Prim.Native.Nat.{ℕ, ◌+◌, ◌^◌, ◌≤◌, ◌<◌}
-use native.Mathlib.Nat.{le_refl, le_trans, lt_of_le_of_lt}
+use native.Mathlib.Nat.{le_refl, le_trans, le_of_lt, lt_of_le_of_lt}
 use native.Mathlib.Omega.{arith, min_cases}
 use mathlib.Core.Bool.{Bool, true, false, not, ◌&&◌, and-true, and-false}
 use lib.Dec.{ltb, eqb}
+use Rattle.std.specs.Prelude.{Option, Some, None, unwrap_or, min}
+use Rattle.std.specs.Option.{option_eq}
 use Rattle.semantics.specs.Bytes.{bit, with_bit}
 use Rattle.semantics.specs.Plan.{Plan, interactions, below}
 use Rattle.semantics.specs.Rules.{plan_refusal}
@@ -19,7 +21,7 @@ use Rattle.ranks.specs.Standing.{stands}
 use Rattle.ranks.proofs.StandingLaws.{stands_in}
 use Rattle.words.proofs.Gather.{held_inside}
 use Rattle.moves.specs.declared.search.Sought.{Sought}
-use Rattle.moves.specs.Seeking.{AfterGood, AfterBad}
+use Rattle.moves.specs.Seeking.{best_with, AfterGood, AfterBad}
 
 -- ---- masks
 
@@ -138,6 +140,22 @@ path_bad p s r steps n l top on a j t = (a.open_bits j ∙ both_and o z, (was.1.
     other {i} (inr q) =
         ap not (ne_eqb i n (λ e. absurd (absurd_bool o (stands_above p s.open n top j (held_inside (interactions p) s.open j l o) (subst (λ (x : ℕ). below p x j ≡ true) e q)))))
 
+-- ---- the best
+
+-- the lower of n and the best so far is one of them, and no higher than either
+best_cases : (o : Option ℕ) (n : ℕ) → (best_with o n ≡ n) ⊎ (o ≡ Some (best_with o n))
+best_cases None n = inl refl
+best_cases (Some b) n = min_cases b n ((min b n ≡ n) ⊎ (Some b ≡ Some (min b n))) (λ _ e. inr (ap Some (sym e))) (λ _ e. inl e)
+
+best_low : (o : Option ℕ) (n m : ℕ) → n < m → (best_with o n ≤ n) × (best_with o n ≤ unwrap_or o m)
+best_low None n m l = (le_refl n, le_of_lt l)
+best_low (Some b) n m l = (omega arith, omega arith)
+
+-- the test that it is n
+pub best_is : (o : Option ℕ) (n : ℕ) → option_eq eqb o (Some n) ≡ true → o ≡ Some n
+best_is None n e = absurd_bool e refl
+best_is (Some b) n e = ap Some (eqb-true b n e)
+
 -- ---- what the search knows
 
 -- Of the moves, those that are not open end bad; the best is allowed, and each lower move that is not left is not.
@@ -147,36 +165,39 @@ pub record Seeks (p : Plan) (c : Configuration) (moves : ℕ) (s : Sought) : Typ
   pub open_in : (j : ℕ) → bit s.open j ≡ true → bit moves j ≡ true
   pub left_open : (j : ℕ) → bit s.left j ≡ true → bit s.open j ≡ true
   pub shut_bad : (j : ℕ) → bit moves j ≡ true → bit s.open j ≡ false → good p (after p c j) ≡ false
-  pub best≤ : s.best ≤ interactions p
-  pub best_allowed : s.best < interactions p → may_commit p c s.best ≡ true
-  pub passed : (j : ℕ) → j < s.best → bit s.left j ≡ false → may_commit p c j ≡ false
+  pub best_allowed : (b : ℕ) → s.best ≡ Some b → (b < interactions p) × (may_commit p c b ≡ true)
+  pub passed : (j : ℕ) → j < unwrap_or s.best (interactions p) → bit s.left j ≡ false → may_commit p c j ≡ false
 
--- nothing is left: the best is the safe move
-pub seeks_done : (p : Plan) (c : Configuration) (moves : ℕ) (s : Sought) → Seeks p c moves s → s.left ≡ 0 → s.best ≡ safe_move p c
-seeks_done p c moves s k z = safe_unique p c s.best k.best≤ k.best_allowed (λ j l. k.passed j l (ap (λ (x : ℕ). bit x j) z ∙ bit-zero j))
+-- when nothing is left
+module _ (p : Plan) (c : Configuration) (moves : ℕ) (s : Sought) (k : Seeks p c moves s) (z : s.left ≡ 0) where
+  -- each lower move than the best is not allowed
+  lower_shut : (o : Option ℕ) → s.best ≡ o → (j : ℕ) → j < unwrap_or o (interactions p) → may_commit p c j ≡ false
+  lower_shut o e j l =
+      k.passed j (subst (λ (x : Option ℕ). j < unwrap_or x (interactions p)) (sym e) l) (ap (λ (x : ℕ). bit x j) z ∙ bit-zero j)
+
+  -- the best is the safe move
+  pub seeks_found : (b : ℕ) → s.best ≡ Some b → (b ≡ safe_move p c) × (b < interactions p)
+  seeks_found b e = let (l, m) = k.best_allowed b e in (safe_unique p c b (le_of_lt l) (λ _. m) (lower_shut (Some b) e), l)
+
+  -- and with none, no move is safe
+  pub seeks_none : s.best ≡ None → safe_move p c ≡ interactions p
+  seeks_none e = sym (safe_unique p c (interactions p) (le_refl (interactions p)) (λ l. absurd (omega arith)) (lower_shut None e))
 
 -- The moves are enabled interactions, and each other enabled interaction ends bad.
 module _ (p : Plan) (c : Configuration) (moves : ℕ) (inside : moves < 2 ^ interactions p) (on : (j : ℕ) → bit moves j ≡ true → enabled p c.state j ≡ true)
     (out : (j : ℕ) → j < interactions p → enabled p c.state j ≡ true → bit moves j ≡ false → good p (after p c j) ≡ false) where
   -- at the start every move is open and left, and none is known to be allowed
-  pub seeks_start : (b : ℕ) → b ≡ interactions p → Seeks p c moves (record { «open» = moves; left = moves; path = 0; best = b })
-  seeks_start b e =
+  pub seeks_start : Seeks p c moves (record { «open» = moves; left = moves; path = 0; best = None })
+  seeks_start =
       record {
         open≤ = le_refl moves;
         left≤ = le_refl moves;
         open_in = λ j t. t;
         left_open = λ j t. t;
         shut_bad = λ j t f. absurd_bool t f;
-        best≤ = omega arith;
-        best_allowed = λ l. absurd (none l);
-        passed = λ j l f. bool_cases (may_commit p c j) (λ m. absurd_bool (commit_good p c j m) (out j (low l) (commit_enabled p c j m) f)) (λ m. m);
+        best_allowed = λ b e. cc;
+        passed = λ j l f. bool_cases (may_commit p c j) (λ m. absurd_bool (commit_good p c j m) (out j l (commit_enabled p c j m) f)) (λ m. m);
       }
-    where
-      none : b < interactions p → ⊥
-      none l = omega arith
-
-      low : {j : ℕ} → j < b → j < interactions p
-      low l = omega arith
 
   module _ (s r : Sought) (steps n : ℕ) (k : Seeks p c moves s) (top : stands p s.open n ≡ true) where
     -- a move above which nothing open lies is one of the moves
@@ -201,7 +222,6 @@ module _ (p : Plan) (c : Configuration) (moves : ℕ) (inside : moves < 2 ^ inte
           open_in = λ j t. k.open_in j (sym (same j) ∙ t);
           left_open = λ j t. same j ∙ k.left_open j (good-kept p s r n a j t);
           shut_bad = λ j t f. k.shut_bad j t (sym (same j) ∙ f);
-          best≤ = omega (arith, a.best_lower, k.best≤);
           best_allowed = allowed;
           passed = λ j l f. bool_cases (bit s.left j) (λ t. dominated_uncommitted p c j n top_inside (good_dropped p s r n a j t (low l) f) (top-allowed g)) (k.passed j (under l));
         }
@@ -209,17 +229,20 @@ module _ (p : Plan) (c : Configuration) (moves : ℕ) (inside : moves < 2 ^ inte
         same : (j : ℕ) → bit r.open j ≡ bit s.open j
         same j = ap (λ (x : ℕ). bit x j) a.open_same
 
-        low : {j : ℕ} → j < r.best → j < n
-        low l = omega (arith, a.best_lower)
+        within : {j : ℕ} → j < unwrap_or r.best (interactions p) → j < best_with s.best n
+        within {j} l = subst (λ (x : Option ℕ). j < unwrap_or x (interactions p)) a.best_lower l
 
-        under : {j : ℕ} → j < r.best → j < s.best
-        under l = omega (arith, a.best_lower)
+        low : {j : ℕ} → j < unwrap_or r.best (interactions p) → j < n
+        low l = le_trans (within l) (best_low s.best n (interactions p) top_inside).0
 
-        allowed : r.best < interactions p → may_commit p c r.best ≡ true
-        allowed l =
-            min_cases s.best n (may_commit p c r.best ≡ true)
-            (λ _ e. let q : r.best ≡ s.best = a.best_lower ∙ e in ap (may_commit p c) q ∙ k.best_allowed (subst (λ (x : ℕ). x < interactions p) q l))
-            (λ _ e. ap (may_commit p c) (a.best_lower ∙ e) ∙ top-allowed g)
+        under : {j : ℕ} → j < unwrap_or r.best (interactions p) → j < unwrap_or s.best (interactions p)
+        under l = le_trans (within l) (best_low s.best n (interactions p) top_inside).1
+
+        allowed : (b : ℕ) → r.best ≡ Some b → (b < interactions p) × (may_commit p c b ≡ true)
+        allowed b e =
+            let q : best_with s.best n ≡ b = cc a.best_lower in
+            ⊎_elim (λ (h : best_with s.best n ≡ n). subst (λ (x : ℕ). (x < interactions p) × (may_commit p c x ≡ true)) (sym h ∙ q) (top_inside, top-allowed g))
+            (λ h. k.best_allowed b (h ∙ ap Some q)) (best_cases s.best n)
 
     -- it ends bad
     seeks_bad : good p (after p c n) ≡ false → AfterBad s steps n r → Seeks p c moves r
@@ -230,12 +253,11 @@ module _ (p : Plan) (c : Configuration) (moves : ℕ) (inside : moves < 2 ^ inte
           open_in = λ j t. k.open_in j (cut_kept s.open r.open n a.open_bits j t);
           left_open = still;
           shut_bad = λ j t f. bool_cases (eqb j n) (bad j) (λ o. k.shut_bad j t (sym (cut_other s.open r.open n a.open_bits j o) ∙ f));
-          best≤ = subst (λ (x : ℕ). x ≤ interactions p) (sym a.best_same) k.best≤;
-          best_allowed = λ l. ap (may_commit p c) a.best_same ∙ k.best_allowed (subst (λ (x : ℕ). x < interactions p) a.best_same l);
+          best_allowed = λ b e. k.best_allowed b (sym a.best_same ∙ e);
           passed =
               λ j l f.
               bool_cases (eqb j n) (λ e. bad_uncommitted p c j (bad j e))
-              (λ o. k.passed j (subst (λ (x : ℕ). j < x) a.best_same l) (sym (cut_other s.left r.left n a.left_bits j o) ∙ f));
+              (λ o. k.passed j (subst (λ (x : Option ℕ). j < unwrap_or x (interactions p)) a.best_same l) (sym (cut_other s.left r.left n a.left_bits j o) ∙ f));
         }
       where
         bad : (j : ℕ) → eqb j n ≡ true → good p (after p c j) ≡ false

@@ -1,2 +1,3 @@
-pub mod OracleLoops
+pub mod States
+pub mod Tables
 pub mod Verdicts

@@ -9,9 +9,9 @@ use lib.Seq.{get_or-set_same, get_or-set_other}
 use lib.Dec.{leb, ltb, eqb}
 use lib.Bits.{bit_or}
 use Rattle.semantics.specs.Bytes.{every, some_below, bit, mask, with_bit}
-use Rattle.semantics.specs.Plan.{Plan, Span, max_components, max_variables, no_port, code_words, variables, components, owner, port_in, takes_part}
+use Rattle.semantics.specs.Plan.{Plan, Span, max_components, max_variables, no_port, code_words, variables, transitions, components, owner, component_of, port_in, takes_part}
 use Rattle.semantics.specs.Code.{Role, owned_by, shared_in, span_ok}
-use Rattle.semantics.specs.Rules.{variable_ok}
+use Rattle.semantics.specs.Rules.{variable_ok, transition_ok}
 use Rattle.semantics.proofs.Basics.{bool_cases, same_test, and_both, both_and, each, all_of_lem, ltb-true, ltb-false, eqb-true, eqb_same, eqb-false, eq-eqb, ne_eqb, every-at, some_has, some_found}
 use Rattle.semantics.proofs.Masks.{bit_mask, bit_mask_over, bit-zero}
 use Rattle.words.proofs.BitLaws.{bit_or_lem}
@@ -28,13 +28,13 @@ pub record OwnedBelow (p : Plan) (v : ℕ) (l : List ℕ) : Type 0 where
   pub sixteen : length l ≡ max_components
   pub owns : (c : ℕ) → c < max_components → get_or l c 0 ≡ mask v (λ k. eqb (owner p k) c)
 
-pub owned-none : (p : Plan) (l : List ℕ) → length l ≡ max_components → ((c : ℕ) → get_or l c 0 ≡ 0) → OwnedBelow p 0 l
-owned-none p l e z = record { sixteen = e; owns = λ c h. z c ∙ mask_start (λ k. eqb (owner p k) c) }
+pub owned_none : (p : Plan) (l : List ℕ) → length l ≡ max_components → ((c : ℕ) → get_or l c 0 ≡ 0) → OwnedBelow p 0 l
+owned_none p l e z = record { sixteen = e; owns = λ c h. z c ∙ mask_start (λ k. eqb (owner p k) c) }
 
 -- one variable more, at its owner
-pub owned-next : (p : Plan) (v o : ℕ) (l : List ℕ) → OwnedBelow p v l → v < max_variables → o < max_components → owner p v ≡ o
+pub owned_next : (p : Plan) (v o : ℕ) (l : List ℕ) → OwnedBelow p v l → v < max_variables → o < max_components → owner p v ≡ o
     → (n : ℕ) → n ≡ with_bit (get_or l o 0) v → OwnedBelow p (v + 1) (set l o n)
-owned-next p v o l f h u e n q = record { sixteen = length-set l o n ∙ f.sixteen; owns = λ c m. bool_cases (eqb c o) (own c) (other c m) }
+owned_next p v o l f h u e n q = record { sixteen = length-set l o n ∙ f.sixteen; owns = λ c m. bool_cases (eqb c o) (own c) (other c m) }
   where
     Goal : ℕ → Type 0
     Goal c = get_or (set l o n) c 0 ≡ mask (v + 1) (λ k. eqb (owner p k) c)
@@ -57,6 +57,15 @@ unfolding variable_ok
 owner_low p h e v l =
     let (own, _) = each _ (every-at (variables p) (variable_ok p) e v l) in
     let w : owner p v < components p = ltb-true _ _ own in
+    omega arith
+
+-- and a transition of the plan a component
+pub component_low : (p : Plan) → components p ≤ max_components → every (transitions p) (transition_ok p) ≡ true → (t : ℕ) → t < transitions p
+    → component_of p t < max_components
+unfolding transition_ok
+component_low p h e t l =
+    let (own, _) = each _ (every-at (transitions p) (transition_ok p) e t l) in
+    let w : component_of p t < components p = ltb-true _ _ own in
     omega arith
 
 mask-bit : (n : ℕ) (f : ℕ → Bool) (k : ℕ) → bit (mask n f) k ≡ (ltb k n && f k)
@@ -112,13 +121,13 @@ gathered_all p i m l o g v =
 -- ---- spans
 
 -- the same names make the same rules
-pub span-names : (p : Plan) (r : Role) (f g : ℕ → Bool) (s : Span) → ((v : ℕ) → f v ≡ g v) → span_ok p r f s ≡ span_ok p r g s
-span-names p r f g s e = λ i. span_ok p r (λ v. e v i) s
+pub span_names : (p : Plan) (r : Role) (f g : ℕ → Bool) (s : Span) → ((v : ℕ) → f v ≡ g v) → span_ok p r f s ≡ span_ok p r g s
+span_names p r f g s e = λ i. span_ok p r (λ v. e v i) s
 
-pub pair-names : (p : Plan) (f g : ℕ → Bool) (a b : ℕ) → ((v : ℕ) → f v ≡ g v) → pair_ok p f a b ≡ pair_ok p g a b
-pair-names p f g a b e = λ i. pair_ok p (λ v. e v i) a b
+pub pair_names : (p : Plan) (f g : ℕ → Bool) (a b : ℕ) → ((v : ℕ) → f v ≡ g v) → pair_ok p f a b ≡ pair_ok p g a b
+pair_names p f g a b e = λ i. pair_ok p (λ v. e v i) a b
 
 -- a span that is empty and may be keeps the rules where it starts in the code or at its end
-pub span-blank : (p : Plan) (r : Role) (f : ℕ → Bool) (s : Span) → r.looks ≡ false → s.size ≡ 0 → leb s.start (code_words p) ≡ span_ok p r f s
-span-blank p r f s b e =
+pub span_blank : (p : Plan) (r : Role) (f : ℕ → Bool) (s : Span) → r.looks ≡ false → s.size ≡ 0 → leb s.start (code_words p) ≡ span_ok p r f s
+span_blank p r f s b e =
     sym (and-true (leb s.start (code_words p))) ∙ ap (λ (x : Bool). leb s.start (code_words p) && not x) (sym b) ∙ span_empty p r f s e

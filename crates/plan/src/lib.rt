@@ -4,85 +4,85 @@ ghost use Rattle.std.specs.Prelude.{◌≡◌};
 ghost use Rattle.semantics.specs.Refusal.{refusal};
 ghost use Rattle.semantics.specs.Rules.{header_rules, table_rules, code_rules, plan_refusal};
 ghost use Rattle.layout.specs.Laid.{Laid};
+ghost use Rattle.plan.specs.Numbers.{checked_number};
 
+use crate::refusal::Refusal;
 use layout::header::added_oracles;
 use oracle::rule;
 use ranks::order;
 use tables::{header, records};
 
 pub mod names;
+pub mod refusal;
 pub mod spans;
 
-// The first refusal of the header, 1 to 3; 0 where none applies.
-fn header_refusal(plan: &[u8]) -> u8
-    ensures { result ≡ refusal (header_rules plan.now) }
+// The first refusal of the header, 1 to 3.
+#[tactic(auto, using(layout::proofs::Sections::header_in), unfolding(semantics::specs::Refusal::refusal, semantics::specs::Refusal::unless))]
+fn header_refusal(plan: &[u8]) -> Result<(), Refusal>
+    ensures { checked_number result ≡ refusal (header_rules plan.now) }
 {
     if !header::head_ok(plan) {
-        return 1;
+        return Err(Refusal::BadHead);
     }
     if !header::counts_ok(plan) {
-        return 2;
+        return Err(Refusal::BadCount);
     }
     if !header::layout_ok(plan) {
-        return 3;
+        return Err(Refusal::BadLayout);
     }
-    0
+    Ok(())
 }
 
 // The first refusal of the tables, 4 to 9 and 20.
-fn table_refusal(plan: &[u8]) -> u8
+#[tactic(auto, using(crate::proofs::Passing::none_added), unfolding(semantics::specs::Refusal::refusal, semantics::specs::Refusal::unless))]
+fn table_refusal(plan: &[u8]) -> Result<(), Refusal>
     requires { Laid plan.now }
-    ensures { result ≡ refusal (table_rules plan.now) }
+    ensures { checked_number result ≡ refusal (table_rules plan.now) }
 {
     if !records::components_ok(plan) {
-        return 4;
+        return Err(Refusal::BadComponent);
     }
     if !records::variables_ok(plan) {
-        return 5;
+        return Err(Refusal::BadVariable);
     }
     if !records::transitions_ok(plan) {
-        return 6;
+        return Err(Refusal::BadTransition);
     }
     if !records::interactions_ok(plan) {
-        return 7;
+        return Err(Refusal::BadInteraction);
     }
     if !order::ranks_ok(plan) {
-        return 8;
+        return Err(Refusal::BadRank);
     }
     if !rule::first_ok(plan) {
-        return 9;
+        return Err(Refusal::BadOracle);
     }
     if added_oracles(plan) == 0 {
-        return 0;
+        return Ok(());
     }
     if !rule::added_ok(plan) {
-        return 20;
+        return Err(Refusal::BadAdded);
     }
-    0
+    Ok(())
 }
 
 // The refusal of the code, 10, where the tables are in order.
-fn code_refusal(plan: &[u8]) -> u8
+#[tactic(auto, unfolding(semantics::specs::Refusal::refusal, semantics::specs::Refusal::unless))]
+fn code_refusal(plan: &[u8]) -> Result<(), Refusal>
     requires { Laid plan.now × (refusal (table_rules plan.now) ≡ 0) }
-    ensures { result ≡ refusal (code_rules plan.now) }
+    ensures { checked_number result ≡ refusal (code_rules plan.now) }
 {
     if !spans::code_ok(plan) {
-        return 10;
+        return Err(Refusal::BadCode);
     }
-    0
+    Ok(())
 }
 
-// The number of the first refusal that applies to the plan, 0 where none does.
-pub fn check(plan: &[u8]) -> u8
-    ensures { result ≡ plan_refusal plan.now }
+// The first refusal that applies to the plan.
+pub fn check(plan: &[u8]) -> Result<(), Refusal>
+    ensures { checked_number result ≡ plan_refusal plan.now }
 {
-    let of_header = header_refusal(plan);
-    if of_header != 0 {
-        return of_header;
-    }
-    let of_tables = table_refusal(plan);
-    if of_tables != 0 {
-        return of_tables;
-    }
+    header_refusal(plan)?;
+    table_refusal(plan)?;
     code_refusal(plan)
 }

@@ -18,7 +18,8 @@ pub fn is_outranked(plan: &[u8], moves: u64, i: usize) -> bool
     bits::meets(records::rank_row(plan, i), moves)
 }
 
-// The interactions of the mask above which none of the mask lies; the bits of the mask from the lowest on.
+// The interactions of the mask above which none of the mask lies; the bits of the mask from the lowest on. The walks over a mask stay apart: each test asks what is known
+// of its bit, which a function that takes the test would ask again at each call.
 pub fn standing_mask(plan: &[u8], moves: u64) -> u64
     requires plan_value { plan_refusal plan.now ≡ 0 }
     requires moves_bound { moves < 2 ^ interactions plan.now }

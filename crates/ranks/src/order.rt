@@ -46,7 +46,7 @@ fn is_closed(plan: &[u8], row: u64, before: u64) -> bool
     true
 }
 
-// Whether row i keeps the rule, where the rows of its numbers do. The mask has all the interactions; before is the row before, which passed, or 0.
+// Whether row i keeps the rule, where the rows of its numbers do. The mask has all the interactions; before is the row before, which passed, or 0, an empty row, which passes.
 fn row_ok(plan: &[u8], all: u64, before: u64, i: usize) -> bool
     requires laid { Laid plan.now × (i < interactions plan.now) × ((j : ℕ) → bit all j ≡ ltb j (interactions plan.now)) }
     requires told { Told plan.now before }
@@ -70,13 +70,11 @@ pub fn ranks_ok(plan: &[u8]) -> bool
     let count = interactions(plan);
     let all = bits::first_bits(count);
     let mut before = 0;
-    let mut i = 0;
-    while i < count {
+    for i in 0..count {
         if !row_ok(plan, all, before, i) {
             return false;
         }
         before = rank_row(plan, i);
-        i += 1;
     }
     true
 }

@@ -1,20 +1,19 @@
--- What a reading of the roster finds: the free lane that waited longest, the lowest number on a tie; 8 where none is free.
+-- What a reading of the roster finds: the free lane that waited longest, the lowest number on a tie; none where none is free.
 use mathlib.Core.Path.{◌≡◌, refl, sym, subst}
-use mathlib.Core.Logic.{◌⊎◌, inl, inr}
 use Prim.Native.Nat.{ℕ, zero, suc, ◌≤◌, ◌<◌}
 use native.Mathlib.Nat.{not-suc-le-zero}
 use native.Mathlib.Omega.{arith}
-use mathlib.Core.Bool.{true, false, ◌||◌}
+use mathlib.Core.Bool.{Bool, true, false, cond}
 use mathlib.Core.List.{List, [], ◌∷◌, map}
 use lib.Dec.{leb, ltb, eqb}
 use lib.ListN.{length, get_or}
+use Rattle.std.specs.Prelude.{Option, Some, None}
 use Rattle.semantics.specs.Bytes.{implies, every, lowest}
-use Rattle.semantics.proofs.Basics.{bool_cases, absurd_bool, and_both, both_and, or_cases, or_left, or_right, implies-yes, implies-at, each, all_of_lem, leb-true, le_leb, eqb-true, eq-eqb, ltb-true, ltb-false, every-at, every_all, below_suc, Lowest, lowest_is, lowest_unique}
+use Rattle.semantics.proofs.Basics.{bool_cases, absurd_bool, and_both, both_and, implies-yes, implies-at, each, all_of_lem, leb-true, le_leb, eqb-true, ltb-true, ltb-false, every-at, every_all, below_suc, Lowest, lowest_is, lowest_unique}
 use Rattle.roster.specs.declared.record.Lane.{Lane}
 use Rattle.roster.specs.declared.record.Scan.{Scan}
-use Rattle.roster.specs.Roster.{max_lanes, no_lane, lane_at, free, wait_of, longest, chosen}
+use Rattle.roster.specs.Roster.{no_lane, lane_at, free, wait_of, longest, chosen}
 use Rattle.roster.specs.Scan.{better, scan_step, scan_to, scanned}
-use Rattle.roster.proofs.ServeLaws.{step_yes, step_no}
 
 -- a record of a roster each of whose records was changed
 pub at_map : (g : Lane → Lane) (l : List Lane) (j : ℕ) → j < length l → get_or (map g l) j no_lane ≡ g (get_or l j no_lane)
@@ -31,60 +30,64 @@ pub record Best (k : ℕ) (l : List Lane) (m w : ℕ) : Type 0 where
   pub first : (j : ℕ) → j < m → free l j ≡ true → wait_of l j < w
 
 -- what a reading of the first k records found: none is free, or the lane that a turn goes to
-abbrev pub Found : ℕ → List Lane → Scan → Type 0
-Found k l s = ((s.lane ≡ 8) × ((j : ℕ) → j < k → free l j ≡ false)) ⊎ Best k l s.lane s.wait
+abbrev pub Found : ℕ → List Lane → Option Lane → Type 0
+Found k l None = (j : ℕ) → j < k → free l j ≡ false
+Found k l (Some a) = Best k l a.number a.wait
 
-chosen-now : (k : ℕ) (l : List Lane) (s : Scan) → k < 8 → (lane_at l k).number ≡ k → better s (lane_at l k) ≡ true → Found k l s
-    → Best (suc k) l (lane_at l k).number (wait_of l k)
-chosen-now k l s h e y (inl f) = subst (λ (m : ℕ). Best (suc k) l m (wait_of l k)) (sym e) (record {
-  small = omega arith;
-  free-at = (and_both (free l k) (eqb s.lane 8 || ltb s.wait (wait_of l k)) y).0;
-  wait_at = refl;
-  at_most = λ j g q. below_suc g (λ m. absurd_bool q (f.1 j m)) (λ m. subst (λ (x : ℕ). wait_of l x ≤ wait_of l k) (sym m) (omega arith));
-  first = λ j g q. absurd_bool q (f.1 j g);
-})
-chosen-now k l s h e y (inr f) =
-    let more : s.wait < wait_of l k = or_cases (eqb s.lane 8) (ltb s.wait (wait_of l k))
-    (and_both (free l k) (eqb s.lane 8 || ltb s.wait (wait_of l k)) y).1
-    (λ q. let a = eqb-true s.lane 8 q in let c = f.small in absurd (omega (arith, a, c))) (λ q. ltb-true _ _ q) in
-    subst (λ (m : ℕ). Best (suc k) l m (wait_of l k)) (sym e) (record {
-      small = omega arith;
-      free-at = (and_both (free l k) (eqb s.lane 8 || ltb s.wait (wait_of l k)) y).0;
-      wait_at = refl;
-      at_most = λ j g q. below_suc g (λ m. let a = f.at_most j m q in omega (arith, a, more))
-          (λ m. subst (λ (x : ℕ). wait_of l x ≤ wait_of l k) (sym m) (omega arith));
-      first = λ j g q. let a = f.at_most j g q in omega (arith, a, more);
-    })
+module _ (k : ℕ) (l : List Lane) where
+  abbrev here : Lane
+  here = lane_at l k
 
-kept : (k : ℕ) (l : List Lane) (s : Scan) → better s (lane_at l k) ≡ false → Found k l s → Found (suc k) l s
-kept k l s off (inl f) =
-    let held : free l k ≡ false = bool_cases (free l k) (λ q. absurd_bool
-    (both_and q (or_left (eqb s.lane 8) (ltb s.wait (wait_of l k)) (eq-eqb s.lane 8 f.0))) off) (λ q. q) in
-    inl (f.0, λ j g. below_suc g (f.1 j) (λ m. subst (λ (x : ℕ). free l x ≡ false) (sym m) held))
-kept k l s off (inr f) = inr (record {
-  small = let c = f.small in omega (arith, c);
-  free-at = f.free-at;
-  wait_at = f.wait_at;
-  at_most = λ j g q. below_suc g (λ m. f.at_most j m q) (λ m.
-      let here : free l k ≡ true = subst (λ (x : ℕ). free l x ≡ true) m q in
-      subst (λ (x : ℕ). wait_of l x ≤ s.wait) (sym m) (bool_cases (ltb s.wait (wait_of l k))
-      (λ y. absurd_bool (both_and here (or_right (eqb s.lane 8) (ltb s.wait (wait_of l k)) y)) off) (λ y. ltb-false _ _ y)));
-  first = f.first;
-})
+  -- record k takes the place of the one found, or not
+  taken : here.number ≡ k → (o : Option Lane) → better o here ≡ true → Found k l o → Best (suc k) l here.number here.wait
+  taken e None y f = subst (λ (m : ℕ). Best (suc k) l m here.wait) (sym e) (record {
+    small = omega arith;
+    free-at = (and_both _ _ y).0;
+    wait_at = refl;
+    at_most = λ j g q. below_suc g (λ m. absurd_bool q (f j m)) (λ m. subst (λ (x : ℕ). wait_of l x ≤ here.wait) (sym m) (omega arith));
+    first = λ j g q. absurd_bool q (f j g);
+  })
+  taken e (Some a) y f =
+      let more : a.wait < here.wait = ltb-true a.wait here.wait (and_both (free l k) (ltb a.wait here.wait) y).1 in
+      subst (λ (m : ℕ). Best (suc k) l m here.wait) (sym e) (record {
+        small = omega arith;
+        free-at = (and_both _ _ y).0;
+        wait_at = refl;
+        at_most = λ j g q. below_suc g (λ m. let w = f.at_most j m q in omega (arith, w, more))
+            (λ m. subst (λ (x : ℕ). wait_of l x ≤ here.wait) (sym m) (omega arith));
+        first = λ j g q. let w = f.at_most j g q in omega (arith, w, more);
+      })
 
-found_next : (k : ℕ) (l : List Lane) (s : Scan) → k < 8 → (lane_at l k).number ≡ k → Found k l s → Found (suc k) l (scan_step s k (lane_at l k))
-found_next k l s h e f =
-    bool_cases (better s (lane_at l k)) (λ y. subst (Found (suc k) l) (step_yes s k (lane_at l k) _ refl y) (inr (chosen-now k l s h e y f)))
-    (λ y. subst (Found (suc k) l) (step_no s k (lane_at l k) _ refl y) (kept k l s y f))
+  kept : (o : Option Lane) → better o here ≡ false → Found k l o → Found (suc k) l o
+  kept None off f =
+      let held : free l k ≡ false = bool_cases (free l k) (λ q. absurd_bool (both_and q refl) off) (λ q. q) in
+      λ j g. below_suc g (f j) (λ m. subst (λ (x : ℕ). free l x ≡ false) (sym m) held)
+  kept (Some a) off f = record {
+    small = let c = f.small in omega (arith, c);
+    free-at = f.free-at;
+    wait_at = f.wait_at;
+    at_most = λ j g q. below_suc g (λ m. f.at_most j m q) (λ m.
+        let free_here : free l k ≡ true = subst (λ (x : ℕ). free l x ≡ true) m q in
+        subst (λ (x : ℕ). wait_of l x ≤ a.wait) (sym m)
+        (bool_cases (ltb a.wait here.wait) (λ y. absurd_bool (both_and free_here y) off) (λ y. ltb-false _ _ y)));
+    first = f.first;
+  }
 
-pub found : (k : ℕ) (l : List Lane) → k ≤ 8 → (scan_to k l).counted ≡ true → ((j : ℕ) → j < k → (lane_at l j).number ≡ j) × Found k l (scan_to k l)
+  found_next : here.number ≡ k → (s : Scan) → Found k l s.longest → Found (suc k) l (scan_step s k here).longest
+  unfolding scan_step
+  found_next e s f =
+      bool_cases (better s.longest here)
+      (λ y. subst (λ (b : Bool). Found (suc k) l (cond b (Some here) s.longest)) (sym y) (taken e s.longest y f))
+      (λ y. subst (λ (b : Bool). Found (suc k) l (cond b (Some here) s.longest)) (sym y) (kept s.longest y f))
+
+pub found : (k : ℕ) (l : List Lane) → (scan_to k l).counted ≡ true → ((j : ℕ) → j < k → (lane_at l j).number ≡ j) × Found k l (scan_to k l).longest
 unfolding scan_to scan_step
-found zero l h c = (λ j g. absurd (not-suc-le-zero g), inl (refl, λ j g. absurd (not-suc-le-zero g)))
-found (suc k) l h c =
+found zero l c = (λ j g. absurd (not-suc-le-zero g), λ j g. absurd (not-suc-le-zero g))
+found (suc k) l c =
     let d = and_both (scan_to k l).counted (eqb (lane_at l k).number k) c in
-    let f = found k l (omega arith) d.0 in
+    let f = found k l d.0 in
     let e = eqb-true _ _ d.1 in
-    (λ j g. below_suc g (f.0 j) (λ m. subst (λ (x : ℕ). (lane_at l x).number ≡ x) (sym m) e), found_next k l (scan_to k l) (omega arith) e f.1)
+    (λ j g. below_suc g (f.0 j) (λ m. subst (λ (x : ℕ). (lane_at l x).number ≡ x) (sym m) e), found_next k l e (scan_to k l) f.1)
 
 -- ---- the lane that the paper's turn goes to
 best_longest : (l : List Lane) (m w : ℕ) → Best (length l) l m w → Lowest (length l) (longest l) m
@@ -126,12 +129,12 @@ unfolding chosen
 chosen_none l f = lowest_unique (length l) (longest l) (lowest (length l) (longest l)) (length l) (lowest_is (length l) (longest l)) (none-longest l f)
 
 -- a roster that is read whole, its numbers running from 0: nobody is free and none is chosen, or the one chosen is found
-pub chosen-free : (l : List Lane) → length l ≤ max_lanes → (scanned l).counted ≡ true → (i : ℕ) → i < length l → free l i ≡ true
+pub chosen-free : (l : List Lane) → (scanned l).counted ≡ true → (i : ℕ) → i < length l → free l i ≡ true
     → Best (length l) l (chosen l) (wait_of l (chosen l))
-chosen-free l h c i m f = found_free (found (length l) l h c).1
+chosen-free l c i m f = found_free (scanned l).longest (found (length l) l c).1
   where
-    found_free : Found (length l) l (scanned l) → Best (length l) l (chosen l) (wait_of l (chosen l))
-    found_free (inl none) = absurd_bool f (none.1 i m)
-    found_free (inr b) =
-        let e = chosen_best l (scanned l).lane (scanned l).wait b in
-        subst (λ (k : ℕ). Best (length l) l k (wait_of l k)) (sym e) (subst (λ (w : ℕ). Best (length l) l (scanned l).lane w) b.wait_at b)
+    found_free : (o : Option Lane) → Found (length l) l o → Best (length l) l (chosen l) (wait_of l (chosen l))
+    found_free None none = absurd_bool f (none i m)
+    found_free (Some a) b =
+        subst (λ (k : ℕ). Best (length l) l k (wait_of l k)) (sym (chosen_best l a.number a.wait b))
+        (subst (λ (w : ℕ). Best (length l) l a.number w) b.wait_at b)

@@ -1,27 +1,26 @@
 -- The turn in the paper's words: when it is refused, idle or a lane's, and that the code takes it.
-use mathlib.Core.Path.{◌≡◌, refl, sym, ap, ap₂, subst, ◌∙◌}
-use mathlib.Core.Logic.{inl, inr}
-use Prim.Native.Nat.{ℕ, zero, suc, ◌+◌, ◌*◌, ◌≤◌, ◌<◌}
+use mathlib.Core.Path.{◌≡◌, refl, sym, ap, subst, ◌∙◌}
+use Prim.Native.Nat.{ℕ, zero, suc, ◌*◌, ◌≤◌, ◌<◌}
 use native.Mathlib.Omega.{arith}
 use mathlib.Core.Bool.{Bool, true, false, cond, ◌&&◌}
 use mathlib.Core.List.{List, [], ◌∷◌, map}
 use lib.Dec.{leb, ltb, eqb}
 use lib.ListN.{length}
+use Rattle.std.specs.Prelude.{Option, Some, None}
 use Rattle.semantics.specs.Bytes.{every}
 use Rattle.semantics.specs.Plan.{Plan}
 use Rattle.semantics.specs.Refusal.{rule, unless, refusal}
 use Rattle.semantics.specs.Rules.{plan_refusal}
 use Rattle.semantics.specs.Image.{image_length}
-use Rattle.semantics.specs.Calls.{packed}
 use Rattle.semantics.proofs.Basics.{bool_cases, absurd_bool, each, all_of_lem, leb-true, le_leb, ltb-true, lt-ltb, ltb-false, le-ltb, eqb-true, eq-eqb, ne_eqb}
 use Rattle.engine.proofs.Refusals.{plan_refused, plan_kept}
 use Rattle.roster.specs.declared.record.Lane.{Lane}
 use Rattle.roster.specs.declared.record.Scan.{Scan}
-use Rattle.roster.specs.declared.serve.Turn.{Turn}
 use Rattle.roster.specs.Roster.{max_lanes, lane_at, chosen, waited}
-use Rattle.roster.specs.Turn.{roster_ok, turn_rules, turned_away, idle, packed_turn, Dispatched, unchanged, given, unless_turned_away, dispatch}
-use Rattle.roster.specs.Scan.{scan_step, scan_to, scanned, moved_on, nobodys, bad_roster, served_turn, served_bytes}
-use Rattle.roster.proofs.ServeLaws.{turn_plan, turn_bad, turn_idle, turn_served, fits}
+use Rattle.roster.specs.Turn.{roster_ok, turn_rules, TurnAnswer, turned_away, idle, served, packed_turn, Dispatched, unchanged, given, unless_turned_away, dispatch}
+use Rattle.roster.specs.Served.{turned}
+use Rattle.roster.specs.Scan.{moved_on, scan_step, scan_to, scanned, bad_roster, found_answer, found_bytes, served_answer, served_bytes}
+use Rattle.roster.proofs.ServeLaws.{turn_plan, turn_bad, turn_found, fits}
 use Rattle.roster.proofs.Choice.{Found, found, chosen_best, chosen_none}
 
 -- ---- 23
@@ -132,18 +131,6 @@ module _ (p : Plan) (l : List Lane) (b : List ℕ) where
     pub dispatch_idle : length l ≤ chosen l → dispatch p l b ≡ unchanged idle l b
     dispatch_idle h = dispatch_fit false (le-ltb (chosen l) (length l) h)
 
--- ---- the waits
-moved_none : (l : List Lane) → map (moved_on max_lanes) l ≡ l
-unfolding moved_on
-moved_none [] = refl
-moved_none (a ∷ l) = ap (λ (t : List Lane). a ∷ t) (moved_none l)
-
-moved_waited : (m : ℕ) → m < max_lanes → (l : List Lane) → map (moved_on m) l ≡ map (waited m) l
-unfolding moved_on
-moved_waited m h [] = refl
-moved_waited m h (a ∷ l) =
-    ap₂ (λ (x : Lane) (t : List Lane). x ∷ t) (ap (λ (c : Bool). cond c a (waited m a)) (ne_eqb m max_lanes (λ q. omega (arith, q)))) (moved_waited m h l)
-
 -- ---- the code's turn is the paper's
 module _ (p : Plan) (l : List Lane) (b : List ℕ) where
   abbrev n : ℕ
@@ -152,62 +139,76 @@ module _ (p : Plan) (l : List Lane) (b : List ℕ) where
   abbrev s : Scan
   s = scanned l
 
-  abbrev Agrees : Turn → List ℕ → Type 0
-  Agrees t z = (t.answer ≡ packed_turn (dispatch p l b).answer) × (map (moved_on t.lane) l ≡ (dispatch p l b).roster) × (z ≡ (dispatch p l b).images)
+  abbrev Agrees : Dispatched → Type 0
+  Agrees d = (served_answer p b s n ≡ d.answer) × (served_bytes p b s n ≡ d.images)
 
-  abbrev Taken : Turn → List ℕ → Type 0
-  Taken t z = (t ≡ served_turn p b s n) × (z ≡ served_bytes p b s n)
-
-  agrees : (t : Turn) (z : List ℕ) (d : Dispatched) → dispatch p l b ≡ d → t.answer ≡ packed_turn d.answer → map (moved_on t.lane) l ≡ d.roster
-      → z ≡ d.images → Taken t z
-      → Agrees (served_turn p b s n) (served_bytes p b s n)
-  agrees t z d e x y w f =
-      subst (λ (u : Turn). Agrees u (served_bytes p b s n)) f.0 (subst (Agrees t) f.1
-      (x ∙ ap (λ (c : Dispatched). packed_turn c.answer) (sym e), y ∙ ap (λ (c : Dispatched). c.roster) (sym e), w ∙ ap (λ (c : Dispatched). c.images) (sym e)))
-
-  refused_agrees : (k : ℕ) → refusal (turn_rules p l (length b)) ≡ k → (k ≡ 0 → ⊥) → Taken (nobodys (5 * 65536 + k)) b
-      → Agrees (served_turn p b s n) (served_bytes p b s n)
-  unfolding packed_turn packed
-  refused_agrees k e f t = agrees (nobodys (5 * 65536 + k)) b (unchanged (turned_away k) l b) (dispatch-refused p l b k e f) refl (moved_none l) refl t
+  agrees : (a : TurnAnswer) (z : List ℕ) (d : Dispatched) → dispatch p l b ≡ d → a ≡ d.answer → z ≡ d.images
+      → (a ≡ served_answer p b s n) × (z ≡ served_bytes p b s n) → Agrees (dispatch p l b)
+  agrees a z d e x w f = subst Agrees (sym e) (sym f.0 ∙ x, sym f.1 ∙ w)
 
   module _ (e : plan_refusal p ≡ 0) (q : bad_roster (length b) s n ≡ false) where
     unrefused : refusal (turn_rules p l (length b)) ≡ 0
     unrefused = then_none p l (length b) e (roster_good l (length b) q)
 
-    fit_agrees : Found n l s → Agrees (served_turn p b s n) (served_bytes p b s n)
-    unfolding given packed_turn
-    fit_agrees (inl f) =
-        let c = (fits (length b) s n q).few in
-        let m = f.0 in
-        agrees (nobodys (7 * 65536)) b (unchanged idle l b) (dispatch_idle p l b unrefused (let z = chosen_none l f.1 in omega (arith, z))) refl
-        (moved_none l) refl
-        (turn_idle p b s n e q (omega (arith, m, c)))
-    fit_agrees (inr f) =
-        let m = s.lane in
-        let a = f.small in
-        let c = (fits (length b) s n q).few in
-        agrees _ _ (given p l b m) (dispatch-given p l b unrefused m (chosen_best l m s.wait f) f.small) refl (moved_waited m (omega (arith, a, c)) l) refl
-        (turn_served p b s n e q f.small)
+    fit_agrees : (o : Option Lane) → Found n l o → (found_answer p b n o ≡ served_answer p b s n) × (found_bytes p b n o ≡ served_bytes p b s n)
+        → Agrees (dispatch p l b)
+    unfolding given found_answer found_bytes
+    fit_agrees None f t = agrees idle b (unchanged idle l b) (dispatch_idle p l b unrefused (let z = chosen_none l f in omega (arith, z))) refl refl t
+    fit_agrees (Some a) f t =
+        let h = lt-ltb a.number n f.small in
+        agrees _ _ (given p l b a.number) (dispatch-given p l b unrefused a.number (chosen_best l a.number a.wait f) f.small) (simp h) (simp h) t
 
-  code_agrees : Agrees (served_turn p b s n) (served_bytes p b s n)
+  code_agrees : Agrees (dispatch p l b)
   code_agrees =
       bool_cases (eqb (plan_refusal p) 0) (λ x.
       let e = eqb-true (plan_refusal p) 0 x in
-      bool_cases (bad_roster (length b) s n) (λ q. refused_agrees 23 (then_23 p l (length b) e (roster_bad l (length b) q)) (λ z. omega (arith, z))
-      (turn_bad p b s n e q)) (λ q.
-      fit_agrees e q (found n l (fits (length b) s n q).few (fits (length b) s n q).counted).1))
+      bool_cases (bad_roster (length b) s n)
+      (λ q. agrees (turned_away 23) b (unchanged (turned_away 23) l b)
+      (dispatch-refused p l b 23 (then_23 p l (length b) e (roster_bad l (length b) q)) (λ z. omega (arith, z))) refl refl (turn_bad p b s n e q))
+      (λ q. fit_agrees e q s.longest (found n l (fits (length b) s n q).counted).1 (turn_found p b s n e q)))
       (λ x.
       let f : plan_refusal p ≡ 0 → ⊥ = λ z. absurd_bool (eq-eqb (plan_refusal p) 0 z) x in
-      refused_agrees (plan_refusal p) (plan_first p l (length b) f) f (turn_plan p b s n (plan_refusal p) refl f))
+      agrees (turned_away (plan_refusal p)) b (unchanged (turned_away (plan_refusal p)) l b)
+      (dispatch-refused p l b (plan_refusal p) (plan_first p l (length b) f) f) refl refl (turn_plan p b s n f))
+
+-- ---- the waits
+
+-- the roster after a turn, by what it answers
+unfoldable pub moved : TurnAnswer → List Lane → List Lane
+moved (turned_away n) l = l
+moved idle l = l
+moved (served i a) l = map (waited i) l
+
+-- a turn of no lane leaves every record
+moved_none : (l : List Lane) → map (moved_on None) l ≡ l
+unfolding moved_on
+moved_none [] = refl
+moved_none (a ∷ l) = ap (λ (m : List Lane). a ∷ m) (moved_none l)
+
+-- the records moved on after a turn
+pub moved_by : (t : TurnAnswer) (l : List Lane) → map (moved_on (turned t)) l ≡ moved t l
+unfolding moved turned
+moved_by (turned_away n) l = moved_none l
+moved_by idle l = moved_none l
+moved_by (served i a) l = unfold moved_on in refl
+
+roster_moved : (p : Plan) (l : List Lane) (b : List ℕ) → (dispatch p l b).roster ≡ moved (dispatch p l b).answer l
+unfolding dispatch unless_turned_away given moved
+roster_moved p l b = by_ways (refusal (turn_rules p l (length b))) (ltb (chosen l) (length l))
+  where
+    by_ways : (n : ℕ) (c : Bool) → (unless_turned_away n l b (cond c (given p l b (chosen l)) (unchanged idle l b))).roster ≡ moved (unless_turned_away n l b (cond c (given p l b (chosen l)) (unchanged idle l b))).answer l
+    by_ways zero true = refl
+    by_ways zero false = refl
+    by_ways (suc n) c = refl
 
 -- the whole call, from what its three parts say
-pub dispatched : (p : Plan) (l : List Lane) (b : List ℕ) (m : Scan) (t : Turn) (zr : List Lane) (zi : List ℕ) → m ≡ scanned l
-    → t ≡ served_turn p b m (length l) → zi ≡ served_bytes p b m (length l) → zr ≡ map (moved_on t.lane) l
-    → (t.answer ≡ packed_turn (dispatch p l b).answer) × (zr ≡ (dispatch p l b).roster) × (zi ≡ (dispatch p l b).images)
-dispatched p l b m t zr zi e₀ e₁ e₂ e₃ =
-    let a = code_agrees p l b in
-    let e = e₁ ∙ ap (λ (x : Scan). served_turn p b x (length l)) e₀ in (
-      ap (λ (u : Turn). u.answer) e ∙ a.0,
-      e₃ ∙ ap (λ (u : Turn). map (moved_on u.lane) l) e ∙ a.1,
-      e₂ ∙ ap (λ (x : Scan). served_bytes p b x (length l)) e₀ ∙ a.2,
+pub dispatched : (p : Plan) (l : List Lane) (b : List ℕ) (m : Scan) (a : TurnAnswer) (zr : List Lane) (zi : List ℕ) → m ≡ scanned l
+    → a ≡ served_answer p b m (length l) → zi ≡ served_bytes p b m (length l) → zr ≡ map (moved_on (turned a)) l
+    → (packed_turn a ≡ packed_turn (dispatch p l b).answer) × (zr ≡ (dispatch p l b).roster) × (zi ≡ (dispatch p l b).images)
+dispatched p l b m a zr zi e₀ e₁ e₂ e₃ =
+    let d = code_agrees p l b in
+    let e : a ≡ (dispatch p l b).answer = e₁ ∙ ap (λ (x : Scan). served_answer p b x (length l)) e₀ ∙ d.0 in (
+      ap packed_turn e,
+      e₃ ∙ moved_by a l ∙ ap (λ (x : TurnAnswer). moved x l) e ∙ sym (roster_moved p l b),
+      e₂ ∙ ap (λ (x : Scan). served_bytes p b x (length l)) e₀ ∙ d.1,
     )

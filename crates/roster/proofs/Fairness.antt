@@ -77,7 +77,7 @@ module _ (x : Lent) (i : ℕ) (u : refusal (turn_rules x.plan x.roster (length x
   crew = turn_manned x.plan l (length x.images) u
 
   best : Best n l m (wait_of l m)
-  best = chosen-free l crew.few crew.counted i h f
+  best = chosen-free l crew.counted i h f
 
   pub is_given : turn_of x ≡ given x.plan l x.images m
   is_given = dispatch-given x.plan l x.images u m refl best.small

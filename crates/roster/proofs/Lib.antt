@@ -1,4 +1,3 @@
-pub mod ChangedRows
 pub mod Choice
 pub mod Dispatch
 pub mod EachLane

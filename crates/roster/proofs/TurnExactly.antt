@@ -56,10 +56,10 @@ module _ (p : Plan) (l : List Lane) (b : List ℕ) where
     is_longest h = (each _ ((lowest_is (length l) (longest l)).hit h)).0
 
     chosen-turn : chosen l < length l → Due l (chosen l)
-    chosen-turn h = chosen-free l crew.few crew.counted (chosen l) h (is_longest h)
+    chosen-turn h = chosen-free l crew.counted (chosen l) h (is_longest h)
 
     none_free : length l ≤ chosen l → AllHeld l
-    none_free h j g = bool_cases (free l j) (λ q. let s = (chosen-free l crew.few crew.counted j g q).small in absurd (omega (arith, s))) (λ q. q)
+    none_free h j g = bool_cases (free l j) (λ q. let s = (chosen-free l crew.counted j g q).small in absurd (omega (arith, s))) (λ q. q)
 
     goes_on : Goes (dispatch p l b)
     goes_on =

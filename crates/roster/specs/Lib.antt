@@ -1,5 +1,6 @@
 pub mod Events
 pub mod Roster
 pub mod Scan
+pub mod Served
 pub mod Turn
 pub mod Turns

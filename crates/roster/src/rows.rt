@@ -6,31 +6,25 @@ use crate::record;
 use crate::record::{Lane, Scan};
 
 // Reads the roster.
+#[tactic(auto, unfolding(crate::specs::Scan::scan_to))]
 pub fn scan(roster: &[Lane]) -> Scan
     ensures { result ≡ scanned roster.now }
 {
     let mut s = Scan {
         counted: true,
-        lane: record::NOBODY,
-        wait: 0,
+        longest: None,
     };
-    let mut i: usize = 0;
-    while i < roster.len() {
-        let a = roster[i];
-        s = record::step(s, i, a);
-        i += 1;
+    for (i, a) in roster.iter().enumerate() {
+        s = record::step(s, i, *a);
     }
     s
 }
 
-// Moves the waits on after a turn of the lane given.
-pub fn grow(roster: &mut [Lane], lane: u8)
-    ensures { roster.new ≡ map (moved_on lane) roster.old }
+// Moves the waits on after a turn of the lane given, or of none.
+pub fn grow(roster: &mut [Lane], turn: Option<u8>)
+    ensures { roster.new ≡ map (moved_on turn) roster.old }
 {
-    let mut i: usize = 0;
-    while i < roster.len() {
-        let a = roster[i];
-        roster[i] = record::after(a, lane);
-        i += 1;
+    for a in roster.iter_mut() {
+        *a = record::after(*a, turn);
     }
 }

@@ -1,42 +1,41 @@
 // The turn of the lane that a reading of the roster found, on the buffer of all images.
-ghost use Rattle.std.specs.Prelude.{◌≡◌, ◌+◌, ◌*◌, ◌<◌, ◌≤◌, length};
+ghost use Rattle.std.specs.Prelude.{◌≡◌, ◌+◌, ◌*◌, ◌≤◌, length};
 ghost use Rattle.semantics.specs.Rules.{plan_refusal};
-ghost use Rattle.semantics.specs.Calls.{packed};
-ghost use Rattle.roster.specs.Turn.{settled_part, with_part};
-ghost use Rattle.roster.specs.Scan.{bad_roster, served_turn, served_bytes};
+ghost use Rattle.engine.specs.Answers.{answer_of};
+ghost use Rattle.roster.specs.Turn.{settled_part, with_part, packed_turn};
+ghost use Rattle.roster.specs.Scan.{bad_roster, served_answer, served_bytes};
+ghost use Rattle.roster.specs.Served.{turn_answer, turned};
 
-use crate::record::{NOBODY, Scan};
+use crate::record::Scan;
+use engine::answer::Answer;
 use engine::{answer, calls};
 use layout::image::LENGTH;
-use words::bytes::wide;
+use plan::refusal::Refusal;
 
-// Kind 5, refused; with 23; and kind 7, idle.
-const REFUSED: u32 = 5 * 65536;
-
-const BAD_ROSTER: u32 = 5 * 65536 + 23;
-
+// Kind 7, idle: the number that C sees.
 const IDLE: u32 = 7 * 65536;
 
-// What a turn answers, and whose it was: NOBODY where it was no lane's.
-#[derive(Clone, Copy)]
-pub struct Turn {
-    pub answer: u32,
+// A lane's turn: whose it was, and what its settling answered.
+#[derive(Clone, Copy, PartialEq, Eq, Debug)]
+pub struct Served {
     pub lane: u8,
+    pub answer: Result<Answer, Refusal>,
 }
 
 // One lane's bytes are settled, and all others stay.
-fn settle_part(plan: &[u8], images: &mut [u8], lane: usize, checked: u8) -> u32
-    requires checked_value { checked ≡ plan_refusal plan.now }
+fn settle_part(plan: &[u8], images: &mut [u8], lane: usize) -> Result<Answer, Refusal>
+    requires plan_accepted { plan_refusal plan.now ≡ 0 }
     requires lane_in_bounds { 312 * lane + 312 ≤ length images.old }
-    ensures value { (result ≡ packed (settled_part plan.now images.old lane).answer) × (result < 458752) }
+    ensures value { answer_of result ≡ (settled_part plan.now images.old lane).answer }
     ensures images_after { images.new ≡ with_part images.old lane (settled_part plan.now images.old lane).image }
 {
     let at = LENGTH * lane;
     let end = at + LENGTH;
-    answer::packed(calls::settle_from(plan, &mut images[at..end], checked))
+    calls::settle_from(plan, &mut images[at..end], Ok(()))
 }
 
 // 23: no lanes or more than eight, numbers that do not run from 0, or a buffer that is not 312 bytes a lane.
+#[tactic(auto, unfolding(crate::specs::Scan::bad_roster))]
 fn is_bad(bytes: usize, scan: Scan, lanes: usize) -> bool
     ensures { result ≡ bad_roster bytes scan lanes }
 {
@@ -49,33 +48,53 @@ fn is_bad(bytes: usize, scan: Scan, lanes: usize) -> bool
     !scan.counted | (bytes != LENGTH * lanes)
 }
 
-// The turn itself: the plan's numbers, 23, idle, or the lane that was found is settled.
-pub fn serve(plan: &[u8], images: &mut [u8], scan: Scan, lanes: usize) -> Turn
-    ensures { (result ≡ served_turn plan.now images.old scan lanes) × (images.new ≡ served_bytes plan.now images.old scan lanes) }
+// The turn itself: the plan's numbers, 23, none where all are held, or the lane that was found is settled.
+pub fn serve(
+    plan: &[u8],
+    images: &mut [u8],
+    scan: Scan,
+    lanes: usize,
+) -> Result<Option<Served>, Refusal>
+    ensures { (turn_answer result ≡ served_answer plan.now images.old scan lanes) × (images.new ≡ served_bytes plan.now images.old scan lanes) }
 {
-    let checked = plan::check(plan);
-    if checked != 0 {
-        return Turn {
-            answer: REFUSED + checked as u32,
-            lane: NOBODY,
-        };
-    }
+    plan::check(plan)?;
     if is_bad(images.len(), scan, lanes) {
-        return Turn {
-            answer: BAD_ROSTER,
-            lane: NOBODY,
-        };
+        return Err(Refusal::BadRoster);
     }
-    let lane = wide(scan.lane);
+    let Some(found) = scan.longest else {
+        return Ok(None);
+    };
+    let lane = usize::from(found.number);
     if lane >= lanes {
-        return Turn {
-            answer: IDLE,
-            lane: NOBODY,
-        };
+        return Ok(None);
     }
-    let said = settle_part(plan, images, lane, checked);
-    Turn {
-        answer: scan.lane as u32 * 16777216 + said,
-        lane: scan.lane,
+    let answer = settle_part(plan, images, lane);
+    Ok(Some(Served {
+        lane: found.number,
+        answer: answer,
+    }))
+}
+
+// Whose turn it was; none where it was no lane's.
+#[tactic(auto, unfolding(crate::specs::Served::turn_answer, crate::specs::Served::turned))]
+pub fn lane_of(turn: Result<Option<Served>, Refusal>) -> Option<u8>
+    ensures { result ≡ turned (turn_answer turn) }
+{
+    match turn {
+        Ok(Some(served)) => Some(served.lane),
+        Ok(None) => None,
+        Err(_) => None,
+    }
+}
+
+// The turn as one number: lane * 16777216 + the settling's answer, idle, or the refusal. No From: Result and u32 are both std's.
+#[tactic(auto, unfolding(crate::specs::Served::turn_answer, crate::specs::Turn::packed_turn))]
+pub fn packed(turn: Result<Option<Served>, Refusal>) -> u32
+    ensures { result ≡ packed_turn (turn_answer turn) }
+{
+    match turn {
+        Ok(Some(served)) => u32::from(served.lane) * 16777216 + answer::packed(served.answer),
+        Ok(None) => IDLE,
+        Err(refusal) => answer::packed(Err(refusal)),
     }
 }

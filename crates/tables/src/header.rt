@@ -12,6 +12,7 @@ use layout::header::{
 use words::bytes::tagged;
 
 // Whether the header's last two bytes are zero.
+#[tactic(auto, unfolding(semantics::specs::Bytes::every))]
 fn reserved_zero(plan: &[u8]) -> bool
     requires { 48 ≤ length plan.now }
     ensures { result ≡ every 2 (λ k. eqb (reserved_byte plan.now k) 0) }
@@ -20,6 +21,7 @@ fn reserved_zero(plan: &[u8]) -> bool
 }
 
 // 1: the header is there, with its letters and its zeros.
+#[tactic(auto, unfolding(semantics::specs::Rules::head_ok, semantics::specs::Bytes::all_of))]
 pub fn head_ok(plan: &[u8]) -> bool
     ensures { result ≡ head_ok plan.now }
 {
@@ -30,13 +32,15 @@ pub fn head_ok(plan: &[u8]) -> bool
 }
 
 // low ≤ n ≤ high
+#[tactic(auto, using(std::proofs::lemmas::Bool::Decides::nat_tests), unfolding(semantics::specs::Rules::within, semantics::specs::Bytes::all_of))]
 pub fn ranged(low: usize, high: usize, n: usize) -> bool
     ensures { result ≡ within low high n }
 {
-    (low <= n) & (n <= high)
+    (low..=high).contains(&n)
 }
 
 // 2, for oracle n: it has 1 to 32 states, or none where the plan has no oracle n.
+#[tactic(auto, using(semantics::proofs::Oracles::used_count, semantics::proofs::Oracles::unused_count))]
 fn state_count_ok(plan: &[u8], n: usize) -> bool
     requires { (48 ≤ length plan.now) × (n < max_oracles) }
     ensures { result ≡ state_count_ok plan.now n }
@@ -50,6 +54,7 @@ fn state_count_ok(plan: &[u8], n: usize) -> bool
 }
 
 // 2, for how many oracles are added and for the states of all; the four bytes of those added are zero where there are none.
+#[tactic(auto, unfolding(semantics::specs::Rules::oracle_counts_ok, semantics::specs::Bytes::all_of, semantics::specs::Bytes::every))]
 fn oracle_counts_ok(plan: &[u8]) -> bool
     requires { 48 ≤ length plan.now }
     ensures { result ≡ oracle_counts_ok plan.now }
@@ -63,6 +68,7 @@ fn oracle_counts_ok(plan: &[u8]) -> bool
 }
 
 // 2: the counts and the first oracle state are in their ranges.
+#[tactic(auto, unfolding(semantics::specs::Rules::counts_ok, semantics::specs::Bytes::all_of))]
 pub fn counts_ok(plan: &[u8]) -> bool
     requires { 48 ≤ length plan.now }
     ensures { result ≡ counts_ok plan.now }
@@ -77,7 +83,8 @@ pub fn counts_ok(plan: &[u8]) -> bool
         & (code_words(plan) <= 4096)
 }
 
-// The size in bytes of section n, by the counts.
+// The size in bytes of section n, by the counts. The match stays: the plan format numbers the sections.
+#[tactic(auto, unfolding(semantics::specs::Plan::section_size))]
 fn section_size(plan: &[u8], n: usize) -> usize
     requires { (48 ≤ length plan.now) × (propositions plan.now ≤ 4) × (n < 8) }
     ensures { (result ≡ section_size plan.now n) × (result ≤ 5000000) }
@@ -96,18 +103,17 @@ fn section_size(plan: &[u8], n: usize) -> usize
 }
 
 // 3: each section begins where the last one ended, and the plan ends with the last one.
+#[tactic(auto, using(words::proofs::Loops::every_step, semantics::proofs::Basics::every_fails), unfolding(semantics::specs::Rules::layout_ok, semantics::specs::Bytes::all_of, semantics::specs::Plan::section_start))]
 pub fn layout_ok(plan: &[u8]) -> bool
     requires { (48 ≤ length plan.now) × (counts_ok plan.now ≡ true) }
     ensures { result ≡ layout_ok plan.now }
 {
     let mut at = HEADER;
-    let mut n = 0;
-    while n < 8 {
+    for n in 0..8 {
         if section(plan, n) != at {
             return false;
         }
         at += section_size(plan, n);
-        n += 1;
     }
     (total_length(plan) == at) & (plan.len() == at)
 }

@@ -1,6 +1,6 @@
 -- One step of a walk: an entry of a list, and the mask of one move.
 use mathlib.Core.Path.{◌≡◌, refl, sym, ap, ◌∙◌, subst}
-use Prim.Native.Nat.{ℕ, ◌<◌}
+use Prim.Native.Nat.{ℕ, suc, ◌<◌}
 use mathlib.Core.Bool.{Bool, true, false, not, ◌&&◌}
 use mathlib.Core.List.{List, [], ◌∷◌}
 use lib.Dec.{ltb, eqb}
@@ -12,6 +12,7 @@ use Rattle.semantics.specs.Move.{Configuration, enabled, after, reaches, leads, 
 use Rattle.semantics.specs.Load.{passable, blocked, entry_allowed}
 use Rattle.semantics.specs.Log.{cause_rules, cause_from, passes}
 use Rattle.semantics.proofs.Basics.{eqb-true, eqb_same}
+use Rattle.semantics.proofs.LogWalk.{caused_stops, uncaused_passes}
 use Rattle.semantics.proofs.Masks.{bit_mask}
 use Rattle.choices.specs.Choices.{ChosenIn}
 use Rattle.moves.proofs.SeekLaws.{one_bit}
@@ -29,6 +30,16 @@ module _ (p : Plan) (c : Configuration) (i : ℕ) where
       in_order true true false true = unfold all_of refusal unless in refl
       in_order true true true false = unfold all_of refusal unless in refl
       in_order true true false false = unfold all_of refusal unless in refl
+
+-- ---- what a step says, from the cause
+
+module _ (p : Plan) (v : ℕ) (c : Configuration) (i : ℕ) where
+  pub not_made : (n : ℕ) → cause_from p v c i ≡ suc n → (false ≡ passes p v c i) × (suc n ≡ cause_from p v c i)
+  not_made n e = (sym (caused_stops p v c i n e), sym e)
+
+  pub made_as : (b : Bool) (o : List ℕ) → cause_from p v c i ≡ 0 → b ≡ reaches p v o → o ≡ (after p c i).oracles
+      → (b ≡ passes p v c i) × (0 ≡ cause_from p v c i)
+  made_as b o e r q = (r ∙ ap (reaches p v) q ∙ sym (uncaused_passes p v c i e), sym e)
 
 -- ---- the mask of one move
 

@@ -1,6 +1,7 @@
 -- A walk over several moves: what is left of it from entry k on, and what a log and a list say of where it stops.
 use mathlib.Core.Path.{◌≡◌, refl, sym, ap, ap₂, ◌∙◌}
 use Prim.Native.Nat.{ℕ, suc, ◌+◌, ◌*◌, ◌/◌, ◌<◌}
+use native.Mathlib.Numerals.{add-one}
 use native.Mathlib.Omega.{arith}
 use mathlib.Core.Bool.{Bool, true, false, cond, ◌&&◌}
 use mathlib.Core.List.{List, [], ◌∷◌}
@@ -12,8 +13,8 @@ use Rattle.semantics.specs.Move.{Configuration, after, good, replay}
 use Rattle.semantics.specs.Load.{stops_at, completes}
 use Rattle.semantics.specs.Log.{cause_from, passes, cause, right, wrong, walked}
 use Rattle.semantics.specs.Calls.{accepted}
-use Rattle.semantics.proofs.Basics.{bool_cases, eqb-true}
-use Rattle.semantics.proofs.LogEntries.{entries_from, entries_end}
+use Rattle.semantics.proofs.Basics.{bool_cases, eqb-true, eq-eqb, ne_eqb}
+use Rattle.semantics.proofs.LogEntries.{entries_from, entries_end, entries_long}
 use Rattle.semantics.proofs.LogWalk.{walked_on, walked_stops}
 use Rattle.words.proofs.TestLaws.{first_fails, second_says}
 use Rattle.walks.specs.Steps.{stops_from, stop_cause}
@@ -51,37 +52,48 @@ pub at-start : (p : Plan) (v : ℕ) (d : Configuration) (l : List ℕ) → At p 
 at-start p v d l = record { stops = omega arith; causes = refl; ends = refl }
 
 module _ (p : Plan) (v : ℕ) (d : Configuration) (l : List ℕ) (c : Configuration) (k : ℕ) (w : At p v d l c k) where
-  -- an entry that passes
-  pub at_next : k < length l / 2 → passes p v c (u16 l (2 * k)) ≡ true → At p v d l (after p c (u16 l (2 * k))) (suc k)
-  unfolding replay
-  at_next h a =
-      let i : ℕ = u16 l (2 * k) in
-      let rest : List ℕ = drop (suc k) (entries l) in
-      let from = entries_from l k h in
-      let on : stops_from p v c (drop k (entries l)) ≡ suc (stops_from p v (after p c i) rest) = ap (stops_from p v c) from ∙ stops_later p v c i rest a in
-      record {
-        stops = omega (arith, w.stops, on);
-        causes = w.causes ∙ ap (stop_cause p v c) from ∙ caused_later p v c i rest a;
-        ends = w.ends ∙ ap (replay p c) from;
-      }
+  module _ (i : ℕ) (h : k < length l / 2) (e : i ≡ u16 l (2 * k)) where
+    here : drop k (entries l) ≡ i ∷ drop (suc k) (entries l)
+    here = entries_from l k h ∙ ap (λ (j : ℕ). j ∷ drop (suc k) (entries l)) (sym e)
 
-  -- one that does not
-  pub at-stop : k < length l / 2 → passes p v c (u16 l (2 * k)) ≡ false
-      → (k ≡ stops_from p v d (entries l)) × (cause_from p v c (u16 l (2 * k)) ≡ stop_cause p v d (entries l))
-  at-stop h a =
-      let i : ℕ = u16 l (2 * k) in
-      let rest : List ℕ = drop (suc k) (entries l) in
-      let from = entries_from l k h in
-      let none : stops_from p v c (drop k (entries l)) ≡ 0 = ap (stops_from p v c) from ∙ stops_here p v c i rest a in
-      (omega (arith, w.stops, none), sym (w.causes ∙ ap (stop_cause p v c) from ∙ caused_here p v c i rest a))
+    -- an entry that passes
+    pub at_next : (n : Configuration) → true ≡ passes p v c i → n ≡ after p c i → At p v d l n (k + 1)
+    unfolding replay
+    at_next n a q =
+        rw (q, add-one)
+        (let rest : List ℕ = drop (suc k) (entries l) in
+        let on : stops_from p v c (drop k (entries l)) ≡ suc (stops_from p v (after p c i) rest) = ap (stops_from p v c) here ∙ stops_later p v c i rest (sym a) in
+        record {
+          stops = omega (arith, w.stops, on);
+          causes = w.causes ∙ ap (stop_cause p v c) here ∙ caused_later p v c i rest (sym a);
+          ends = w.ends ∙ ap (replay p c) here;
+        })
+
+    -- one that does not
+    pub at-stop : (m : ℕ) → false ≡ passes p v c i → m ≡ cause_from p v c i
+        → (false ≡ eqb (stops_from p v d (entries l)) (length (entries l))) × (k ≡ stops_from p v d (entries l)) × (m ≡ stop_cause p v d (entries l))
+    at-stop m a q =
+        let rest : List ℕ = drop (suc k) (entries l) in
+        let none : stops_from p v c (drop k (entries l)) ≡ 0 = ap (stops_from p v c) here ∙ stops_here p v c i rest (sym a) in
+        let at : k ≡ stops_from p v d (entries l) = omega (arith, w.stops, none) in (
+          sym (ne_eqb _ _ (λ z. omega (arith, h, at, z, entries_long l))),
+          at,
+          q ∙ sym (w.causes ∙ ap (stop_cause p v c) here ∙ caused_here p v c i rest (sym a)),
+        )
 
   -- no entry is left
-  pub at_end : k ≡ length l / 2 → (length l / 2 ≡ stops_from p v d (entries l)) × (0 ≡ stop_cause p v d (entries l)) × (c ≡ replay p d (entries l))
-  unfolding stops_from stop_cause replay
+  pub at_end : k ≡ length l / 2
+      → (true ≡ eqb (stops_from p v d (entries l)) (length (entries l))) × (length (entries l) ≡ stops_from p v d (entries l)) × (0 ≡ stop_cause p v d (entries l))
+  unfolding stops_from stop_cause
   at_end h =
       let past : drop k (entries l) ≡ [] = entries_end l k (omega arith) in
       let none : stops_from p v c (drop k (entries l)) ≡ 0 = ap (stops_from p v c) past in
-      (omega (arith, w.stops, none), sym (w.causes ∙ ap (stop_cause p v c) past), sym (w.ends ∙ ap (replay p c) past))
+      let at : length (entries l) ≡ stops_from p v d (entries l) = omega (arith, h, w.stops, none, entries_long l) in
+      (sym (eq-eqb _ _ (sym at)), at, sym (w.causes ∙ ap (stop_cause p v c) past))
+
+  pub at_end_in : k ≡ length l / 2 → c ≡ replay p d (entries l)
+  unfolding replay
+  at_end_in h = sym (w.ends ∙ ap (replay p c) (entries_end l k (omega arith)))
 
 -- ---- of a log
 

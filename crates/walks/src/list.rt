@@ -1,10 +1,11 @@
-// A load in several moves: the clerk's list, its entries 16 bits each, is committed whole or not at all.
+// A load in several moves: the clerk's list, its entries 16 bits each, is committed whole or not at all. It has at most 8, so `as u8` keeps an index and the count.
+// It begins as engine::calls does, and states its own definition.
 ghost use Rattle.std.specs.Prelude.{◌≡◌, cond, length};
 ghost use Rattle.semantics.specs.Refusal.{refusal};
 ghost use Rattle.semantics.specs.Rules.{plan_refusal};
 ghost use Rattle.semantics.specs.Load.{list_rules};
-ghost use Rattle.semantics.specs.Image.{image_length};
 ghost use Rattle.semantics.specs.Calls.{called, Call.list};
+ghost use Rattle.plan.specs.Numbers.{checked_number};
 ghost use Rattle.engine.specs.Answers.{answer_of};
 
 use crate::walk;
@@ -12,8 +13,9 @@ use choices::choice;
 use engine::answer::Answer;
 use engine::reading;
 use lane::run;
-use layout::image::LENGTH;
+use layout::image::Image;
 use oracle::row;
+use plan::refusal::Refusal;
 
 // 22: whether a list is not empty, even in bytes and at most 8 moves long.
 fn list_ok(moves: &[u8]) -> bool
@@ -24,67 +26,52 @@ fn list_ok(moves: &[u8]) -> bool
 }
 
 // Hands in a list of moves: where each is allowed in turn and the last ends good all are made, and where not none.
-pub fn hand_in(plan: &[u8], image: &mut [u8], moves: &[u8]) -> Answer
+pub fn hand_in(plan: &[u8], image: &mut [u8], moves: &[u8]) -> Result<Answer, Refusal>
     ensures { (answer_of result ≡ (called plan.now image.old (list moves.now)).answer) × (image.new ≡ (called plan.now image.old (list moves.now)).image) }
 {
     hand_in_from(plan, image, plan::check(plan), moves)
 }
 
 // The same, from what the plan's check said.
-pub fn hand_in_from(plan: &[u8], image: &mut [u8], checked: u8, moves: &[u8]) -> Answer
-    requires { checked ≡ plan_refusal plan.now }
+pub fn hand_in_from(
+    plan: &[u8],
+    image: &mut [u8],
+    checked: Result<(), Refusal>,
+    moves: &[u8],
+) -> Result<Answer, Refusal>
+    requires { checked_number checked ≡ plan_refusal plan.now }
     ensures { (answer_of result ≡ (called plan.now image.old (list moves.now)).answer) × (image.new ≡ (called plan.now image.old (list moves.now)).image) }
 {
-    if image.len() != LENGTH {
-        return Answer::Refused(reading::unreadable(plan, image, checked));
-    }
-    hand_in_on(plan, image, checked, moves)
+    let Some(lane) = image.as_mut_array() else {
+        return Err(reading::unreadable(plan, image, checked));
+    };
+    hand_in_on(plan, lane, checked, moves)
 }
 
 // The same, on an image that has its length.
-fn hand_in_on(plan: &[u8], image: &mut [u8], checked: u8, moves: &[u8]) -> Answer
-    requires { (checked ≡ plan_refusal plan.now) × (length image.old ≡ image_length) }
+fn hand_in_on(
+    plan: &[u8],
+    image: &mut Image,
+    checked: Result<(), Refusal>,
+    moves: &[u8],
+) -> Result<Answer, Refusal>
+    requires { checked_number checked ≡ plan_refusal plan.now }
     ensures { (answer_of result ≡ (called plan.now image.old (list moves.now)).answer) × (image.new ≡ (called plan.now image.old (list moves.now)).image) }
 {
-    let run = run::load(image);
-    let mut places = run.locations;
-    let mut last = run.last_ports;
-    let mut numbers = run.values;
-    let oracles = run.oracles;
+    let mut run = run::load(image);
     let mut chosen = [choice::unset(plan); 256];
-    let lane = reading::read(
-        plan,
-        image,
-        checked,
-        &places,
-        &last,
-        &numbers,
-        oracles,
-        run.marks,
-        &mut chosen,
-    );
-    let refusal = lane.refusal;
-    if refusal != 0 {
-        return Answer::Refused(refusal);
-    }
+    reading::read(plan, image, checked, &run, &mut chosen)?;
     if !list_ok(moves) {
-        return Answer::Refused(22);
+        return Err(Refusal::BadList);
     }
-    let made = walk::walk(
-        plan,
-        moves,
-        &mut places,
-        &mut last,
-        &mut numbers,
-        oracles,
-        1,
-    );
-    let all = made.index == moves.len() >> 1;
-    let index = made.index as u8;
-    let states = made.oracles;
-    if all & row::reaches(plan, states, 2) {
-        run::store(plan, image, &places, &last, &numbers, states, 0);
-        return Answer::Committed(index);
+    if let Err(stop) = walk::walk(plan, moves, &mut run, 1) {
+        return Ok(Answer::Cancelled(stop.index as u8));
     }
-    Answer::Cancelled(index)
+    let count = (moves.len() >> 1) as u8;
+    if !row::reaches(plan, run.oracles, 2) {
+        return Ok(Answer::Cancelled(count));
+    }
+    run.marks = 0;
+    run::store(plan, image, &run);
+    Ok(Answer::Committed(count))
 }

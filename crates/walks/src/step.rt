@@ -1,122 +1,93 @@
 // One step of a walk, of a log or a list: a move that the ranking allows is made, of any other the cause is said. A move passes from the verdict v on: 2 for a log, 1
 // for a list.
-ghost use Rattle.std.specs.Prelude.{◌≡◌, true, false, not, ◌<◌, eqb, replicate};
+ghost use Rattle.std.specs.Prelude.{◌≡◌, true, not, ◌<◌, eqb, replicate, is_ok, IfOk};
 ghost use Rattle.semantics.specs.Plan.{transitions, interactions, rank_row};
-ghost use Rattle.semantics.specs.Code.{site};
 ghost use Rattle.semantics.specs.Rules.{plan_refusal};
 ghost use Rattle.semantics.specs.Move.{after, oracles_in_range, leads_above};
 ghost use Rattle.semantics.specs.Log.{cause_from, passes};
 ghost use Rattle.choices.specs.Choices.{chosen_table, ChosenIn};
-ghost use Rattle.lane.specs.Runs.{lent, Sized};
+ghost use Rattle.layout.specs.Runs.{state_of, configuration_in};
+ghost use Rattle.walks.specs.Steps.{cause_number, cause_said};
 
 use choices::{choice, masks};
 use layout::header::interactions;
 use layout::records;
+use layout::run::{Run, RunState};
 use moves::{judge, search};
 use oracle::row;
 use words::bits;
 
-// Whether the move is made; where not the cause, 0 where its own verdict is too low; where it is, the oracles' states after it.
-#[derive(Clone, Copy)]
-pub struct Stepped {
-    pub made: bool,
-    pub cause: u8,
-    pub oracles: [u8; 4],
+// Why a move is not made: its own verdict is too low, or one of the numbers that a log's answer says.
+#[derive(Clone, Copy, PartialEq, Eq, Debug)]
+pub enum Cause {
+    EndsLow = 0,
+    NoSuchMove = 16,
+    NotEnabled = 17,
+    Outranked = 18,
 }
 
-// A move that is not made.
-fn stopped(cause: u8, oracles: [u8; 4]) -> Stepped
-    ensures { (result.made ≡ false) × (result.cause ≡ cause) }
-{
-    Stepped {
-        made: false,
-        cause: cause,
-        oracles: oracles,
+impl From<Cause> for u8 {
+    ghost from_gives = { λ c n. n ≡ cause_number c };
+
+    fn from(cause: Cause) -> u8 {
+        cause as u8
     }
 }
 
 // Fills the table of choices as far as move i needs it: for its own parts where no move is ranked above it. Whether one is.
-fn choose_for<'a>(
-    plan: &[u8],
-    locations: &'a [u8; 16],
-    ports: &'a [u8; 16],
-    values: &'a [i32; 64],
-    chosen: &mut [u16; 256],
-    i: usize,
-) -> bool
+fn choose_for(plan: &[u8], state: &RunState, chosen: &mut [u16; 256], i: usize) -> bool
     requires plan_value { plan_refusal plan.now ≡ 0 }
     requires i_bound { (i < interactions plan.now) × (chosen.old ≡ replicate 256 (transitions plan.now)) }
-    ensures chosen_in { ChosenIn plan.now (site locations.now ports.now values.now) chosen.new i }
-    ensures value { (result ≡ not (eqb (rank_row plan.now i) 0)) × (result ≡ true → chosen.new ≡ chosen_table plan.now (site locations.now ports.now values.now)) }
+    ensures chosen_in { ChosenIn plan.now (state_of state.now) chosen.new i }
+    ensures value { (result ≡ not (eqb (rank_row plan.now i) 0)) × (result ≡ true → chosen.new ≡ chosen_table plan.now (state_of state.now)) }
 {
     if records::rank_row(plan, i) == 0 {
-        choice::choose_in(plan, locations, ports, values, chosen, i);
+        choice::choose_in(plan, state, chosen, i);
         return false;
     }
-    choice::choose(plan, locations, ports, values, chosen);
+    choice::choose(plan, state, chosen);
     true
 }
 
 // Whether an enabled move that leads to v or more lies above move i. Where one is ranked above it at all the table of choices is the whole one.
-fn leading_above<'a>(
-    plan: &[u8],
-    locations: &'a [u8; 16],
-    ports: &'a [u8; 16],
-    values: &'a [i32; 64],
-    oracles: [u8; 4],
-    chosen: &[u16; 256],
-    i: usize,
-    ranked: bool,
-    v: u8,
-) -> bool
+fn leading_above(plan: &[u8], run: &Run, chosen: &[u16; 256], i: usize, ranked: bool, v: u8) -> bool
     requires plan_value { plan_refusal plan.now ≡ 0 }
-    requires i_bound { (i < interactions plan.now) × (oracles_in_range plan.now oracles ≡ true) × Sized locations.now ports.now values.now }
-    requires ranked_value { (ranked ≡ not (eqb (rank_row plan.now i) 0)) × (ranked ≡ true → chosen.now ≡ chosen_table plan.now (site locations.now ports.now values.now)) }
-    ensures { result ≡ leads_above plan.now v (lent locations.now ports.now values.now oracles) i }
+    requires i_bound { (i < interactions plan.now) × (oracles_in_range plan.now run.now.oracles ≡ true) }
+    requires ranked_value { (ranked ≡ not (eqb (rank_row plan.now i) 0)) × (ranked ≡ true → chosen.now ≡ chosen_table plan.now (state_of run.now.state)) }
+    ensures { result ≡ leads_above plan.now v (configuration_in run.now) i }
 {
     if !ranked {
         return false;
     }
-    search::leads_above(plan, locations, ports, values, oracles, chosen, i, v)
+    search::leads_above(plan, run, chosen, i, v)
 }
 
 // Makes move i where the ranking allows it and it leads to v or more: the enabled ones above it are judged first, then it is made in place. What a move that does
 // not pass leaves is of no use.
-pub fn step(
-    plan: &[u8],
-    locations: &mut [u8; 16],
-    ports: &mut [u8; 16],
-    values: &mut [i32; 64],
-    oracles: [u8; 4],
-    i: usize,
-    v: u8,
-) -> Stepped
+pub fn step(plan: &[u8], run: &mut Run, i: usize, v: u8) -> Result<(), Cause>
     requires plan_value { plan_refusal plan.now ≡ 0 }
-    requires oracles_value { (oracles_in_range plan.now oracles ≡ true) × Sized locations.old ports.old values.old }
-    ensures made_value { (result.made ≡ passes plan.now v (lent locations.old ports.old values.old oracles) i)
-        × (result.cause ≡ cause_from plan.now v (lent locations.old ports.old values.old oracles) i) }
-    ensures oracles_after { result.made ≡ true → (lent locations.new ports.new values.new result.oracles ≡ after plan.now (lent locations.old ports.old values.old oracles) i)
-        × (oracles_in_range plan.now result.oracles ≡ true) × Sized locations.new ports.new values.new }
+    requires oracles_value { oracles_in_range plan.now run.old.oracles ≡ true }
+    ensures made_value { (is_ok result ≡ passes plan.now v (configuration_in run.old) i)
+        × (cause_said result ≡ cause_from plan.now v (configuration_in run.old) i) }
+    ensures run_after { IfOk result (λ _. configuration_in run.new ≡ after plan.now (configuration_in run.old) i) }
+    ensures in_range { oracles_in_range plan.now run.new.oracles ≡ true }
 {
     if i >= interactions(plan) {
-        return stopped(16, oracles);
+        return Err(Cause::NoSuchMove);
     }
     let mut chosen = [choice::unset(plan); 256];
-    let ranked = choose_for(plan, locations, ports, values, &mut chosen, i);
+    let ranked = choose_for(plan, &run.state, &mut chosen, i);
     let own = bits::with_bit(0, i);
-    let enabled = masks::enabled_among(plan, locations, ports, values, &chosen, own);
+    let enabled = masks::enabled_among(plan, &run.state, &chosen, own);
     if !bits::bit(enabled, i) {
-        return stopped(17, oracles);
+        return Err(Cause::NotEnabled);
     }
-    if leading_above(
-        plan, locations, ports, values, oracles, &chosen, i, ranked, v,
-    ) {
-        return stopped(18, oracles);
+    if leading_above(plan, run, &chosen, i, ranked, v) {
+        return Err(Cause::Outranked);
     }
-    let states = judge::after(plan, locations, ports, values, oracles, &chosen, i);
-    Stepped {
-        made: row::reaches(plan, states, v),
-        cause: 0,
-        oracles: states,
+    judge::after(plan, run, &chosen, i);
+    if !row::reaches(plan, run.oracles, v) {
+        return Err(Cause::EndsLow);
     }
+    Ok(())
 }

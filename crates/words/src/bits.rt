@@ -1,8 +1,9 @@
-// 64-bit masks: bit k stands for the number k.
+// 64-bit masks: bit k stands for the number k. Loops over a mask take its lowest number off by turn and count no index: 01 names that form, trailing zeros.
 ghost use Rattle.std.specs.Prelude.{◌≡◌, ℕ, ◌≤◌, ◌<◌, true, false, not, ◌&&◌, eqb, ltb};
 ghost use Rattle.semantics.specs.Bytes.{bit, lowest, every, some_below, implies, with_bit};
 
 // Whether bit k is set.
+#[tactic(auto, using(crate::proofs::BitLaws::bit_test))]
 pub fn bit(m: u64, k: usize) -> bool
     requires { k < 64 }
     ensures { result ≡ bit m k }
@@ -18,12 +19,13 @@ pub fn with_bit(m: u64, k: usize) -> u64
     m | (1u64 << k)
 }
 
-// The lowest number in the mask.
+// The lowest number in the mask. There is no From of u32 for usize.
+#[tactic(auto, using(crate::proofs::BitLaws::trailing_lowest, crate::proofs::BitLaws::lowest_lt))]
 pub fn lowest_bit(m: u64) -> usize
     requires { 0 < m }
     ensures { (result ≡ lowest 64 (bit m)) × (result < 64) }
 {
-    u64::trailing_zeros(m) as usize
+    m.trailing_zeros() as usize
 }
 
 // The highest number in the mask.
@@ -31,7 +33,7 @@ pub fn highest_bit(m: u64) -> usize
     requires { 0 < m }
     ensures { (bit m result ≡ true) × ((j : ℕ) → result < j → bit m j ≡ false) × (result < 64) }
 {
-    63 - u64::leading_zeros(m) as usize
+    m.ilog2() as usize
 }
 
 // The mask without its lowest number.
@@ -69,7 +71,7 @@ pub fn first_bits(n: usize) -> u64
     ensures { (j : ℕ) → bit result j ≡ ltb j n }
 {
     if n == 64 {
-        return 0xffff_ffff_ffff_ffff;
+        return u64::MAX;
     }
     (1u64 << n) - 1
 }

@@ -6,6 +6,7 @@ ghost use Rattle.semantics.specs.Log.{check_log, log_index};
 ghost use Rattle.semantics.specs.Calls.Call.{offered, try, settle, list};
 ghost use Rattle.roster.specs.Turn.{packed_turn, dispatch};
 
+use engine::answer::Answer;
 use engine::{answer, calls};
 use roster::record::Lane;
 use roster::{rows, serve};
@@ -15,11 +16,7 @@ use walks::{list, log};
 pub fn yard_check(plan: &[u8]) -> u32
     ensures { result ≡ packed (check plan.now) }
 {
-    let refusal = plan::check(plan);
-    if refusal == 0 {
-        return 0;
-    }
-    5 * 65536 + refusal as u32
+    answer::packed(plan::check(plan).and(Ok(Answer::Accepted)))
 }
 
 // Starts a lane: accepted, or refused with 1 to 11, 15 or 20.
@@ -33,15 +30,14 @@ pub fn yard_start(plan: &[u8], image: &mut [u8]) -> u32
 pub fn yard_offered(plan: &[u8], image: &[u8]) -> u32
     ensures { result ≡ packed (called plan.now image.now offered).answer }
 {
-    answer::packed(calls::offerable(plan, image))
+    answer::packed(calls::offerable(plan, image).and(Ok(Answer::Accepted)))
 }
 
 // The moves on offer, bit i for interaction i; 0 where the call is refused.
 pub fn yard_offered_bits(plan: &[u8], image: &[u8]) -> u64
     ensures { result ≡ offered_bits plan.now image.now }
 {
-    let offer = calls::offered(plan, image);
-    offer.bits
+    calls::offered(plan, image).unwrap_or(0)
 }
 
 // Tries one move: committed, cancelled, or refused with 1 to 14 or 16 to 20.
@@ -69,17 +65,14 @@ pub fn yard_list(plan: &[u8], image: &mut [u8], moves: &[u8]) -> u32
 pub fn yard_log(plan: &[u8], log: &[u8]) -> u32
     ensures { result ≡ packed (check_log plan.now log.now) }
 {
-    let checked = log::check_log(plan, log);
-    let said = checked.answer;
-    answer::packed(said)
+    log::packed(log::check_log(plan, log))
 }
 
 // The index, from 0, of the first wrong entry; 0 where there is none.
 pub fn yard_log_index(plan: &[u8], log: &[u8]) -> u64
     ensures { result ≡ log_index plan.now log.now }
 {
-    let found = log::check_log(plan, log);
-    found.bits
+    log::index(log::check_log(plan, log))
 }
 
 // Gives the turn to the lane that waited longest, and settles it: lane * 16777216 + the settling's answer; idle where all are held; or refused with 1 to 10, 20 or
@@ -88,8 +81,7 @@ pub fn yard_turn(plan: &[u8], roster: &mut [Lane], images: &mut [u8]) -> u32
     ensures { (result ≡ packed_turn (dispatch plan.now roster.old images.old).answer) × (roster.new ≡ (dispatch plan.now roster.old images.old).roster) × (images.new ≡ (dispatch plan.now roster.old images.old).images) }
 {
     let scan = rows::scan(roster);
-    let lanes = roster.len();
-    let turn = serve::serve(plan, images, scan, lanes);
-    rows::grow(roster, turn.lane);
-    turn.answer
+    let turn = serve::serve(plan, images, scan, roster.len());
+    rows::grow(roster, serve::lane_of(turn));
+    serve::packed(turn)
 }

@@ -1,5 +1,5 @@
 #![tactic(auto)]
-// The calls that C programs make, as include/yard.h has them: those of yard, each under its own name. An answer is one number, kind * 65536 + number.
+// The calls that C programs make, as include/yard.h has them: those of yard, each under its own name, since C links by name. An answer is one number, kind * 65536 + number.
 ghost use Rattle.std.specs.Prelude.{◌≡◌};
 ghost use Rattle.semantics.specs.Calls.{packed, check, start, called, offered_bits};
 ghost use Rattle.semantics.specs.Log.{check_log, log_index};

@@ -36,262 +36,148 @@
 //   same                     whether the images are as before the last call, but for the marks of the first
 //   others N                 whether they are, but for that of lane N
 //   kept                     whether the images and the roster are
-mod calls;
+mod given;
+mod images;
+mod lent;
 mod memory;
-mod plans;
+mod names;
 mod reading;
-mod says;
-mod state;
-mod turns;
 
-ghost use Rattle.std.specs.Prelude.{◌≤◌, IfOk};
-
-use calls::{call_step, lane_step, look};
-use memory::NOWHERE;
-use plans::{keep, plan_step, take};
-use reading::{packed, parse, seek};
-use says::{say, say_part};
+use given::Given;
+use images::Images;
+use lent::Lent;
+use names::{Call, Name, PlanStep, Step};
+use reading::{Unreadable, first_word, parse, trimmed};
 use std::io;
-use std::io::{ErrorKind, Read};
+use yard_text::{Answer, read_up_to};
 
-// The lent memory: the plan, then from MOVES on the moves, and from KEPT on the plans that are kept.
-const MOVES: usize = 32768;
-
-const KEPT: usize = MOVES + 65536;
-
-const KEPT_SIZE: usize = 4096;
-
-// The images: nine, from ROSTER on nine records, and from BEFORE on all of it as it was before the last call.
-const ROSTER: usize = 9 * 312;
-
-const BEFORE: usize = ROSTER + 36;
-
-// The longest text.
+// The longest text. It and all memory of the cases are fixed: nothing new is trusted, and the heap would add the contracts of C's allocator.
 const TEXT: usize = 131072;
 
-// Memory for each of the two; what is lent besides; the numbers of a step.
-type Memory = [u8; KEPT + 24 * KEPT_SIZE];
-
-type State = [usize; state::END];
-
-type Numbers = [usize; 32];
-
-// The place of a name among the names; state::NONE where it is none. A place that is free has the name 0.
-fn index_of(s: &State, name: usize) -> usize {
-    let mut i = 0;
-    while i < state::NONE {
-        if s[state::NAMES + i] == name {
-            return i;
-        }
-        i += 1;
-    }
-    state::NONE
-}
-
-// Names of steps, eight bytes each, from a place on.
-fn names(words: &[u8], at: usize, s: &mut State) {
-    if at > state::STEPS - 20 {
-        return;
-    }
-    let mut i = 0;
-    while i < 20 {
-        s[state::NAMES + at + i] = packed(words, i * 8, seek(words, i * 8, i * 8 + 8, b' ', true));
-        i += 1;
-    }
-}
-
-// The names of the steps; - is none.
-fn name_steps(s: &mut State) {
-    names(
-        b"counts  bytes   words   longs   chain   times   length  keep    moves   more    odd     image   size    lanes   lane    starts  check   start   offered try     ",
-        0,
-        s,
-    );
-    names(
-        b"settle  list    log     turn    bits    index   byte    marks   value   same    others  kept    waits   -       -       -       -       -       -       -       ",
-        20,
-        s,
-    );
-}
-
-// Whether a step takes n numbers.
-fn takes(word: usize, n: usize) -> bool {
-    match word {
-        0 => n == 8,
-        1..=3 | 11 => (n >= 1) & (n <= 32),
-        4 => n == 2,
-        5..=6 | 12 | 19 | 26 | 28 | 30 => n == 1,
-        8..=9 | 13 => n <= 32,
-        14 => n == 4,
-        _ => n == 0,
-    }
-}
-
-// A step that has n numbers, by its place among the names.
-fn perform(
-    word: usize,
-    numbers: &Numbers,
-    n: usize,
-    lent: &mut Memory,
-    images: &mut Memory,
-    s: &mut State,
-) {
-    match word {
-        0..=10 => plan_step(word, numbers, n, lent, s),
-        11..=14 => lane_step(word, numbers, n, images, s),
-        15..=25 => call_step(word, numbers[0], lent, images, s),
-        26..=39 => look(word, numbers[0], images, s),
-        40..=63 => take(word - 40, lent, s),
-        _ => s[state::KIND] = state::BROKEN,
-    }
-}
-
-// A step of the text.
-fn step(text: &[u8], at: usize, to: usize, lent: &mut Memory, images: &mut Memory, s: &mut State) {
-    s[state::KIND] = state::BROKEN;
-    let from = seek(text, at, to, b' ', false);
-    let end = seek(text, from, to, b' ', true);
-    let name = packed(text, from, end);
-    if name == 0 {
-        return;
-    }
-    let word = index_of(s, name);
-    if word == 7 {
-        keep(packed(text, seek(text, end, to, b' ', false), to), lent, s);
-        return;
-    }
-    let mut numbers = [0usize; 32];
-    let n = parse(text, end, to, word == 2, &mut numbers);
-    if !takes(word, n) {
-        return;
-    }
-    s[state::KIND] = state::NOTHING;
-    perform(word, &numbers, n, lent, images, s);
-}
-
-// The steps of a line, up to one that cannot be read.
-fn run_steps(
-    text: &[u8],
-    from: usize,
-    to: usize,
-    lent: &mut Memory,
-    images: &mut Memory,
-    s: &mut State,
-) {
-    let mut at = from;
-    while at < to {
-        let end = seek(text, at, to, b';', true);
-        step(text, at, end, lent, images, s);
-        if s[state::KIND] == state::BROKEN {
-            return;
-        }
-        if end < at {
-            return;
-        }
-        if end >= text.len() {
-            return;
-        }
-        at = end + 1;
-    }
-}
-
 // The line of a case: its label, and what its last step gave.
-fn tell(
-    rt: &impl Print,
-    text: &[u8],
-    from: usize,
-    to: usize,
-    images: &Memory,
-    s: &State,
-) -> io::Result<()> {
-    say_part(rt, text, from, to)?;
+fn tell(rt: &impl Print, label: &[u8], given: Result<Option<Given>, Unreadable>) -> io::Result<()> {
+    rt.write_all(label)?;
     rt.write_all(b": ")?;
-    if s[state::KIND] > state::BROKEN {
-        say(rt, s[state::KIND], s[state::VALUE], images, s[state::COUNT])?;
-    } else {
-        rt.write_all(b"cannot be read")?;
+    match given {
+        Ok(Some(given)) => rt.print(given)?,
+        _ => rt.write_all(b"cannot be read")?,
     }
     rt.write_all(b"\n")
 }
 
-// One line of the text that is no comment.
-fn run_line(
-    rt: &impl Print,
-    text: &[u8],
-    from: usize,
-    to: usize,
-    lent: &mut Memory,
-    images: &mut Memory,
-    s: &mut State,
-) -> io::Result<()> {
-    s[state::KIND] = state::NOTHING;
-    s[state::SIZE] = NOWHERE;
-    let colon = seek(text, from, to, b':', true);
-    let mut body = from;
-    if colon < to {
-        body = colon + 1;
-    }
-    run_steps(text, body, to, lent, images, s);
-    if (colon < to) | (s[state::KIND] == state::BROKEN) {
-        tell(rt, text, from, colon, images, s)?;
-    }
-    Ok(())
+// What is lent to the calls.
+#[derive(Drop)]
+struct Cases {
+    lent: Lent,
+    images: Images,
 }
 
-// All lines of the text.
-fn run(
-    rt: &impl Print,
-    text: &[u8],
-    lent: &mut Memory,
-    images: &mut Memory,
-    s: &mut State,
-) -> io::Result<()> {
-    let mut at = 0;
-    while at < text.len() {
-        let end = seek(text, at, text.len(), b'\n', true);
-        if text[at] != b'#' {
-            run_line(rt, text, at, end, lent, images, s)?;
-        }
-        if end < at {
-            return Ok(());
-        }
-        if end >= text.len() {
-            return Ok(());
-        }
-        at = end + 1;
+impl Cases {
+    // A call, with what is lent to it.
+    fn call(&mut self, call: Call) -> Given {
+        self.images.remember();
+        let plan = self.lent.plan();
+        let moves = self.lent.moves();
+        let image = self.images.lent(1);
+        let answer = match call {
+            Call::Check => yard::yard_check(plan),
+            Call::Start => yard::yard_start(plan, image),
+            Call::Offered => yard::yard_offered(plan, image),
+            Call::Try(n) => yard::yard_try(plan, image, n),
+            Call::Settle => yard::yard_settle(plan, image),
+            Call::List => yard::yard_list(plan, image, moves),
+            Call::Log => yard::yard_log(plan, moves),
+            Call::Bits => return Given::Number(yard::yard_offered_bits(plan, image)),
+            Call::Index => return Given::Number(yard::yard_log_index(plan, moves)),
+            Call::Turn => return Given::Turn(self.images.turn(plan)),
+        };
+        Given::Answer(Answer::from(answer))
     }
-    Ok(())
-}
 
-// Reads standard input, to its end or to that of the buffer. Gives its length.
-fn read_full(rt: &impl Input, text: &mut [u8; TEXT]) -> io::Result<usize>
-    ensures { IfOk result (λ n. n ≤ 131072) }
-{
-    let mut input = rt.reader();
-    let mut len = 0;
-    for _ in 0..u64::MAX {
-        match input.read(&mut text[len..]) {
-            Ok(0) => return Ok(len),
-            Ok(n) => len += n,
-            Err(e) => {
-                if e.kind() != ErrorKind::Interrupted {
-                    return Err(e);
-                }
+    // starts: starts the first image and makes the others like it.
+    fn start_all(&mut self) -> Given {
+        let given = self.call(Call::Start);
+        self.images.spread();
+        given
+    }
+
+    // A step with its numbers.
+    fn perform(&mut self, step: Step, numbers: &[u32]) -> Result<Option<Given>, Unreadable> {
+        Ok(match (step, numbers) {
+            (Step::Plan(step), _) => {
+                self.lent.step(step, numbers)?;
+                None
             }
+            (Step::Images(step), _) => {
+                self.images.step(step, numbers)?;
+                None
+            }
+            (Step::Look(look), _) => Some(self.images.look(look, numbers)?),
+            (Step::Call(call), []) => Some(self.call(call)),
+            (Step::Try, [n]) => Some(self.call(Call::Try(*n))),
+            (Step::Starts, []) => Some(self.start_all()),
+            _ => return Err(Unreadable),
+        })
+    }
+
+    // A step of the text.
+    fn step(&mut self, text: &[u8]) -> Result<Option<Given>, Unreadable> {
+        let (word, rest) = first_word(text);
+        let name = Name::of(word).ok_or(Unreadable)?;
+        let step = Step::named(name);
+        if let Some(Step::Keep) = step {
+            let plan = Name::of(trimmed(rest)).ok_or(Unreadable)?;
+            self.lent.keep(plan)?;
+            return Ok(None);
+        }
+        let hex = matches!(step, Some(Step::Plan(PlanStep::Words)));
+        let mut buffer = [0; 32];
+        let numbers = parse(rest, hex, &mut buffer).ok_or(Unreadable)?;
+        match step {
+            Some(step) => self.perform(step, numbers),
+            None if numbers.is_empty() => {
+                self.lent.take(name)?;
+                Ok(None)
+            }
+            None => Err(Unreadable),
         }
     }
-    Ok(len)
+
+    // The steps of a line, up to one that cannot be read: what the last one gave.
+    fn steps(&mut self, text: &[u8]) -> Result<Option<Given>, Unreadable> {
+        let mut given = None;
+        for step in text.split_inclusive(|b| *b == b';') {
+            given = self.step(step.strip_suffix(b";").unwrap_or(step))?;
+        }
+        Ok(given)
+    }
+
+    // One line of the text that is no comment.
+    fn line(&mut self, rt: &impl Print, line: &[u8]) -> io::Result<()> {
+        self.images.size = None;
+        if let Some(colon) = line.iter().position(|b| *b == b':') {
+            let given = self.steps(&line[colon + 1..]);
+            return tell(rt, &line[..colon], given);
+        }
+        match self.steps(line) {
+            Ok(_) => Ok(()),
+            unreadable => tell(rt, line, unreadable),
+        }
+    }
 }
 
 fn main(rt: HostRuntime) -> io::Result<()> {
     let mut text = [0u8; TEXT];
-    let mut lent = [0u8; KEPT + 24 * KEPT_SIZE];
-    let mut images = [0u8; KEPT + 24 * KEPT_SIZE];
-    let mut s = [0usize; state::END];
-    s[state::MOVES_END] = MOVES;
-    name_steps(&mut s);
-    let len = read_full(&rt, &mut text)?;
-    run(&rt, &text[..len], &mut lent, &mut images, &mut s)?;
+    let len = read_up_to(&mut rt.reader(), &mut text)?;
+    let mut cases = Cases {
+        lent: Lent::new(),
+        images: Images::new(),
+    };
+    for line in text[..len].split(|b| *b == b'\n') {
+        if !line.starts_with(b"#") {
+            cases.line(&rt, line)?;
+        }
+    }
     if len == TEXT {
         rt.write_all(b"the cases are longer than the memory for them\n")?;
     }

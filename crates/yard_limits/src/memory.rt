@@ -1,90 +1,45 @@
-// Writing into memory. Nothing is written past its end.
-use crate::{Memory, Numbers};
+// Writing into memory. Nothing is written past its end, and a place past its end is none.
+ghost use Rattle.std.specs.Prelude.{◌≤◌};
 
-// No place: past the end of all memory here.
-pub(super) const NOWHERE: usize = 0x1_0000_0000;
+// Writes bytes from a place on, as many as there is room for. Gives the place after them where there was room for all.
+pub(super) fn put(mem: &mut [u8], at: usize, bytes: &[u8]) -> Option<usize> {
+    let room = mem.get_mut(at..)?;
+    for (to, b) in room.iter_mut().zip(bytes) {
+        *to = *b;
+    }
+    if bytes.len() > room.len() {
+        return None;
+    }
+    at.checked_add(bytes.len())
+}
 
-// Writes a number in so many bytes, lowest first. Gives the place after them.
-pub(super) fn put(mem: &mut Memory, at: usize, width: usize, v: usize) -> usize {
+// Writes numbers of so many bytes each, lowest first, up to one that does not fit into them. Gives the place after the last where all fitted.
+pub(super) fn write(mem: &mut [u8], at: usize, width: usize, numbers: &[u32]) -> Option<usize> {
     let mut to = at;
-    let mut rest = v;
-    let mut left = width;
-    while left > 0 {
-        if to >= mem.len() {
-            return NOWHERE;
+    for n in numbers {
+        let bytes = n.to_le_bytes();
+        if bytes.get(width..)?.iter().any(|b| *b != 0) {
+            return None;
         }
-        mem[to] = (rest % 256) as u8;
-        rest = rest / 256;
-        to += 1;
-        left -= 1;
+        to = put(mem, to, bytes.get(..width)?)?;
     }
-    to
-}
-
-// Whether a number fits into so many bytes, 1, 2 or 4.
-fn fits(v: usize, width: usize) -> bool {
-    match width {
-        1 => v < 256,
-        2 => v < 65536,
-        _ => true,
-    }
-}
-
-// Writes the numbers from the kth up to the nth, each in so many bytes. Gives the place after them.
-pub(super) fn write(
-    mem: &mut Memory,
-    at: usize,
-    width: usize,
-    numbers: &Numbers,
-    k: usize,
-    n: usize,
-) -> usize {
-    let mut to = at;
-    let mut i = k;
-    while i < n {
-        if i >= 32 {
-            return NOWHERE;
-        }
-        let v = numbers[i];
-        if !fits(v, width) {
-            return NOWHERE;
-        }
-        to = put(mem, to, width, v);
-        i += 1;
-    }
-    to
-}
-
-// Copies count bytes from one place on to another, one by one and the lowest first. Gives the place after them.
-pub(super) fn copy(mem: &mut Memory, from: usize, to: usize, count: usize) -> usize {
-    let mut read = from;
-    let mut at = to;
-    let mut left = count;
-    while left > 0 {
-        if read >= mem.len() {
-            return NOWHERE;
-        }
-        if at >= mem.len() {
-            return NOWHERE;
-        }
-        mem[at] = mem[read];
-        read += 1;
-        at += 1;
-        left -= 1;
-    }
-    at
+    Some(to)
 }
 
 // Has the bytes between two places stand n times in all. Gives the place after the last.
-pub(super) fn repeat(mem: &mut Memory, from: usize, to: usize, n: usize) -> usize {
-    if to < from {
-        return NOWHERE;
+pub(super) fn repeat(mem: &mut [u8], from: usize, to: Option<usize>, n: usize) -> Option<usize> {
+    if n == 0 {
+        return Some(from);
     }
-    let mut end = from;
-    let mut left = n;
-    while left > 0 {
-        end = copy(mem, from, end, to - from);
-        left -= 1;
+    let to = to?;
+    let len = to.checked_sub(from)?;
+    let end = from.checked_add(len.checked_mul(n)?)?;
+    // By places: each byte is one that the loop may have written.
+    for i in to..end.min(mem.len()) {
+        mem[i] = mem[i - len];
     }
-    end
+    if end > mem.len() {
+        return None;
+    }
+    Some(end)
 }

@@ -1,132 +1,64 @@
-// Reading the text of the cases: its words and numbers. Nothing is read past the text's end.
-ghost use Rattle.std.specs.Prelude.{◌≤◌, length};
+// Reading the text of the cases: its words and numbers.
+// A step that cannot be read.
+#[derive(Clone, Copy)]
+pub(super) struct Unreadable;
 
-use crate::Numbers;
-use words::bytes::wide;
-
-// No number: it is past all that a case can write.
-pub(super) const NO_NUMBER: usize = 0x1_0000_0000;
-
-// A place, or the text's end where that comes first.
-fn inside(text: &[u8], to: usize) -> usize
-    ensures { result ≤ length text.now }
-{
-    if to < text.len() {
-        return to;
+// The text from its first byte on that is no space.
+pub(super) fn trimmed(text: &[u8]) -> &[u8] {
+    match text.iter().position(|b| *b != b' ') {
+        Some(at) => &text[at..],
+        None => &[],
     }
-    text.len()
 }
 
-// The first place from a place on whose byte is b, or where want is false is another, or to.
-pub(super) fn seek(text: &[u8], from: usize, to: usize, b: u8, want: bool) -> usize {
-    let end = inside(text, to);
-    let mut at = from;
-    while at < end {
-        if (text[at] == b) == want {
-            return at;
-        }
-        at += 1;
+// The first word, and what follows it.
+pub(super) fn first_word(text: &[u8]) -> (&[u8], &[u8]) {
+    let word = trimmed(text);
+    match word.iter().position(|b| *b == b' ') {
+        Some(end) => word.split_at(end),
+        None => (word, &[]),
     }
-    at
 }
 
-// The bytes of a word as one number; 0 where it has more than eight.
-pub(super) fn packed(text: &[u8], from: usize, to: usize) -> usize {
-    let end = inside(text, to);
-    let mut sum = 0;
-    let mut at = from;
-    while at < end {
-        if sum >= 0x0100_0000_0000_0000 {
-            return 0;
-        }
-        sum = sum * 256 + wide(text[at]);
-        at += 1;
-    }
-    sum
-}
-
-// A digit's value; 16 where the byte is none.
-fn digit(b: u8) -> usize {
+// A digit's value; capital letters are no digits.
+fn digit(b: u8, hex: bool) -> Option<u32> {
     match b {
-        b'0'..=b'9' => wide(b - b'0'),
-        b'a'..=b'f' => wide(b - b'a') + 10,
-        _ => 16,
+        b'0'..=b'9' => Some(u32::from(b - b'0')),
+        b'a'..=b'f' if hex => Some(u32::from(b - b'a') + 10),
+        _ => None,
     }
 }
 
-// A number with one digit more.
-fn longer(value: usize, d: usize, hex: bool) -> usize {
-    if value >= NO_NUMBER {
-        return NO_NUMBER;
+// The number with these digits.
+fn unsigned(digits: &[u8], hex: bool) -> Option<u32> {
+    let base = if hex { 16 } else { 10 };
+    let mut sum = 0u32;
+    for b in digits {
+        sum = sum.checked_mul(base)?.checked_add(digit(*b, hex)?)?;
     }
-    if d >= 16 {
-        return NO_NUMBER;
-    }
-    if hex {
-        return value * 16 + d;
-    }
-    if d >= 10 {
-        return NO_NUMBER;
-    }
-    value * 10 + d
+    Some(sum)
 }
 
-// The number whose digits are a part of the text.
-fn number(text: &[u8], from: usize, to: usize, hex: bool) -> usize {
-    let end = inside(text, to);
-    let mut value = 0;
-    let mut at = from;
-    while at < end {
-        value = longer(value, digit(text[at]), hex);
-        at += 1;
+// The same with a sign: a number below 0 as its 32 bits.
+fn signed(word: &[u8], hex: bool) -> Option<u32> {
+    match word {
+        [b'-', digits @ ..] => match unsigned(digits, hex)? {
+            n @ 1..=0x8000_0000 => Some(n.wrapping_neg()),
+            _ => None,
+        },
+        _ => unsigned(word, hex),
     }
-    value
 }
 
-// The same with a sign: a number below 0 is given as its 32 bits.
-fn signed(text: &[u8], from: usize, to: usize, hex: bool) -> usize {
-    if from >= inside(text, to) {
-        return NO_NUMBER;
-    }
-    if text[from] != b'-' {
-        return number(text, from, to, hex);
-    }
-    let n = number(text, from + 1, to, hex);
-    if n == 0 {
-        return NO_NUMBER;
-    }
-    if n > 0x8000_0000 {
-        return NO_NUMBER;
-    }
-    NO_NUMBER - n
-}
-
-// The numbers of a part of the text, all but the first in hexadecimal where hex says so. Gives how many they are; NO_NUMBER where one cannot be read.
-pub(super) fn parse(
-    text: &[u8],
-    from: usize,
-    to: usize,
-    hex: bool,
-    numbers: &mut Numbers,
-) -> usize {
+// The numbers of a part of the text, all but the first in hexadecimal where hex says so; none where one of them cannot be read or there are more than 32.
+pub(super) fn parse<'a>(text: &[u8], hex: bool, buffer: &'a mut [u32; 32]) -> Option<&'a [u32]> {
+    // n counts the words that are numbers, not the turns
     let mut n = 0;
-    let mut at = seek(text, from, to, b' ', false);
-    while at < to {
-        let end = seek(text, at, to, b' ', true);
-        let value = signed(text, at, end, hex & (n > 0));
-        if value >= NO_NUMBER {
-            return NO_NUMBER;
+    for word in text.split(|b| *b == b' ') {
+        if !word.is_empty() {
+            *buffer.get_mut(n)? = signed(word, hex && n > 0)?;
+            n += 1;
         }
-        if n >= 32 {
-            return NO_NUMBER;
-        }
-        numbers[n] = value;
-        n += 1;
-        let next = seek(text, end, to, b' ', false);
-        if next <= at {
-            return NO_NUMBER;
-        }
-        at = next;
     }
-    n
+    buffer.get(..n)
 }

@@ -1,12 +1,7 @@
-use mathlib.Core.Path.{◌≡◌, sym, ◌∙◌}
-use native.Mathlib.Omega.{arith}
-use Rattle.yard.proofs.Packing.{check-refused, check-accepted}
+use mathlib.Core.Path.{ap, ◌∙◌}
+use Rattle.semantics.specs.Calls.{packed}
+use Rattle.yard.proofs.Packing.{and_accepted, check_said}
 use Rattle.yard.proofs.yard_check.Goals as goal
 
 pub returns : goal.returns
-returns c =
-    let refuses : c.check-refusal.result ≡ 0 → ⊥ = omega arith in
-    sym (check-refused _ _ c.check-refusal.ensures refuses)
-
-pub returns-then-refusal-eq0 : goal.returns-then-refusal-eq0
-returns-then-refusal-eq0 c = sym (check-accepted _ (sym c.if-refusal-eq0.true ∙ c.check-refusal.ensures))
+returns c = c.packed.ensures.0 ∙ ap packed (rw c.and.ensures (and_accepted c.check.result ∙ check_said _ c.check.result c.check.ensures))

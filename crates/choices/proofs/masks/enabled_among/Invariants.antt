@@ -10,7 +10,7 @@ use Rattle.choices.proofs.masks.enabled_among.Given as goal
 
 abbrev pub invariant-loop-left : goal.invariant-loop-left
 invariant-loop-left l = (l.left ≤ l.moves) × ((j : ℕ) → bit l.left j ≡ true → bit l.moves j ≡ true)
-    × (l.found ≡ passed (interactions l.plan) (λ j. bit l.moves j && enabled l.plan (site l.locations l.ports l.values) j) l.left)
+    × (l.found ≡ passed (interactions l.plan) (λ j. bit l.moves j && enabled l.plan (site l.state.locations l.state.last_ports l.state.values) j) l.left)
 
 abbrev pub decreases-loop-left : goal.decreases-loop-left
 decreases-loop-left l = l.left

@@ -1,15 +1,13 @@
-use mathlib.Core.Path.{refl, sym, ◌∙◌}
+use mathlib.Core.Path.{sym}
 use Rattle.semantics.specs.Image.{image_rules}
-use Rattle.semantics.proofs.Basics.{eqb-false}
-use Rattle.engine.proofs.Refusals.{plan_refused, image_11}
+use Rattle.engine.proofs.Refusals.{plan_refuses, plan_accepts, image_11}
 use Rattle.engine.proofs.reading.unreadable.Goals as goal
 
-pub returns-then-checked-ne0 : goal.returns-then-checked-ne0
-returns-then-checked-ne0 c =
-    let a = c.args in
-    (plan_refused a.plan.now (image_rules a.plan.now a.image.now) a.checked c.requires.checked_value c.if-checked-ne0.true, c.if-checked-ne0.true)
+pub returns-in-Err : goal.returns-in-Err
+returns-in-Err c =
+    let a = c.args in plan_refuses a.plan.now (image_rules a.plan.now a.image.now) a.checked _ c.requires.checked_value c.in-Err.is
 
-pub returns : goal.returns
-returns c =
+pub returns-in-Ok : goal.returns-in-Ok
+returns-in-Ok c =
     let a = c.args in
-    (image_11 a.plan.now a.image.now (sym c.requires.checked_value ∙ c.if-checked-ne0.false) c.requires.fact, eqb-false 11 0 refl)
+    sym (image_11 a.plan.now a.image.now (plan_accepts a.plan.now a.checked _ c.requires.checked_value c.in-Ok.is) c.requires.fact)

@@ -5,7 +5,6 @@ use lib.Dec.{eqb}
 use Rattle.semantics.specs.Bytes.{byte, all_of, every}
 use Rattle.semantics.specs.Plan.{Plan, components, variables, interactions, number_byte}
 use Rattle.semantics.specs.Image.{Image, head, oracle_byte, head_matches}
-use Rattle.layout.proofs.Sections.{laid_accepted}
 use Rattle.lane.proofs.image.head_matches.Goals as goal
 
 -- the tests of a head, part by part
@@ -16,12 +15,6 @@ head-tests : (p : Plan) (b : Image)
     ≡ head_matches p b
 unfolding head_matches oracle_byte head every all_of
 head-tests p b = simp (and_assoc, and-true)
-
-pub counts_match-requires : goal.counts_match-requires
-counts_match-requires c = record { laid = laid_accepted _ c.requires.plan_value; image_len = c.requires.image_len }
-
-pub number_matches-requires : goal.number_matches-requires
-number_matches-requires c = record { laid = laid_accepted _ c.requires.plan_value; image_len = c.requires.image_len }
 
 pub returns : goal.returns
 returns c =

@@ -1,5 +1,5 @@
 use mathlib.Core.Path.{◌≡◌}
-use Prim.Native.Nat.{ℕ, ◌-◌, ◌≤◌}
+use Prim.Native.Nat.{ℕ}
 use lib.IntN.{pos}
 use Rattle.semantics.specs.Bytes.{u32}
 use Rattle.semantics.specs.Signed.{signed}
@@ -9,7 +9,4 @@ use Rattle.words.proofs.Loops.{filled}
 use Rattle.lane.proofs.run.values64.Given as goal
 
 abbrev pub invariant-loop-v : goal.invariant-loop-v
-invariant-loop-v l = (l.v ≤ max_variables) × (l.out ≡ filled max_variables (λ (k : ℕ). signed (u32 l.image (value_place k))) (pos 0) l.v)
-
-abbrev pub decreases-loop-v : goal.decreases-loop-v
-decreases-loop-v l = max_variables - l.v
+invariant-loop-v l = (l.out ≡ filled max_variables (λ (k : ℕ). signed (u32 l.image (value_place k))) (pos 0) l.v)

@@ -2,59 +2,37 @@ use native.Mathlib.Omega.{arith}
 use Prim.Native.Nat.{ℕ, ◌<◌}
 use mathlib.Core.Path.{◌≡◌, ap, ◌∙◌, subst, sym}
 use mathlib.Core.Bool.{Bool}
-use Rattle.code.specs.Taken.{Taken}
 use Rattle.semantics.proofs.Sound.{letter_lt}
 use Rattle.semantics.specs.Move.{letter}
 use Rattle.semantics.specs.Code.{guard_holds, site}
 use Rattle.semantics.specs.Plan.{propositions, letters, span_at, proposition_of}
 use Rattle.semantics.specs.Bytes.{mask, with_bit}
 use Rattle.layout.proofs.Sections.{laid_accepted}
-use Rattle.words.proofs.Loops.{mask_start, mask-yes, mask_no}
-use Rattle.code.proofs.TakenSpans.{proposition_taken}
+use Rattle.words.proofs.Loops.{mask-yes, mask_no}
 use Rattle.moves.proofs.judge.letter.Goals as goal
 use Rattle.moves.proofs.judge.letter.Goals.{then-guard_holds, else-guard_holds}
-
-pub propositions-count-requires : goal.propositions-count-requires
-propositions-count-requires c = (laid_accepted _ c.requires).long
-
-pub loop-k-init : goal.loop-k-init
-loop-k-init c = (omega arith, mask_start _)
-
-pub proposition_at-requires : goal.proposition_at-requires
-proposition_at-requires c = (laid_accepted _ c.requires, omega arith)
-
-pub guard_holds-requires : goal.guard_holds-requires
-guard_holds-requires c =
-    let p = c.args.plan.now in
-    let h : c.loop-k.k < propositions p = omega arith in
-    record { plan_value = c.requires; at_in_bounds = (c.proposition_at.ensures.1, subst (λ (x : ℕ). Taken p 1 (span_at p x)) (sym c.proposition_at.ensures.0) (proposition_taken p c.requires c.loop-k.k h)) }
-
-pub with_bit-out-requires : goal.with_bit-out-requires
-with_bit-out-requires c = omega (arith, (laid_accepted _ c.requires).propositions≤)
 
 pub loop-k-preserved : goal.loop-k-preserved
 loop-k-preserved c =
     let a = c.args in
     let p = a.plan.now in
-    let st = site a.locations.now a.ports.now a.values.now in
+    let st = site a.state.now.locations a.state.now.last_ports a.state.now.values in
     let k = c.loop-k.k in
     let f : ℕ → Bool = λ j. guard_holds p st (proposition_of p j) in
     let h : k < 64 = omega (arith, (laid_accepted p c.requires).propositions≤) in
-    let e : c.guard_holds.result ≡ f k = c.guard_holds.ensures ∙ ap (λ (x : ℕ). guard_holds p st (span_at p x)) c.proposition_at.ensures.0 in (
-      omega arith,
-      elim c.if-guard_holds.branch [
-        | then-guard_holds w ↦
-            w.out-is ∙ w.with_bit-out.ensures ∙ ap (λ (m : ℕ). with_bit m k) c.loop-k.invariant.1 ∙ mask-yes k f h (sym e ∙ w.if-guard_holds.true)
-        | else-guard_holds w ↦ w.out-is ∙ c.loop-k.invariant.1 ∙ mask_no k f (sym e ∙ w.if-guard_holds.false)
-      ],
-    )
+    let e : c.guard_holds.result ≡ f k = c.guard_holds.ensures ∙ ap (λ (x : ℕ). guard_holds p st (span_at p x)) c.proposition_at.ensures.0 in
+    elim c.if-guard_holds.branch [
+      | then-guard_holds w ↦
+          w.out-is ∙ w.with_bit-out.ensures ∙ ap (λ (m : ℕ). with_bit m k) c.loop-k.invariant ∙ mask-yes k f h (sym e ∙ w.if-guard_holds.true)
+      | else-guard_holds w ↦ w.out-is ∙ c.loop-k.invariant ∙ mask_no k f (sym e ∙ w.if-guard_holds.false)
+    ]
 
 pub returns : goal.returns
 unfolding letter
 returns c =
     let a = c.args in
     let p = a.plan.now in
-    let st = site a.locations.now a.ports.now a.values.now in
+    let st = site a.state.now.locations a.state.now.last_ports a.state.now.values in
     let e : c.loop-k.k ≡ propositions p = omega arith in
-    let x : c.loop-k.out ≡ letter p st = c.loop-k.invariant.1 ∙ ap (λ (n : ℕ). mask n (λ j. guard_holds p st (proposition_of p j))) e in
+    let x : c.loop-k.out ≡ letter p st = c.loop-k.invariant ∙ ap (λ (n : ℕ). mask n (λ j. guard_holds p st (proposition_of p j))) e in
     (x, subst (λ (y : ℕ). y < letters p) (sym x) (letter_lt p st))

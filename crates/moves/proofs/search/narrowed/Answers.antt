@@ -9,18 +9,6 @@ use Rattle.layout.proofs.Sections.{laid_accepted}
 use Rattle.moves.proofs.SeekLaws.{one_bit}
 use Rattle.moves.proofs.search.narrowed.Goals as goal
 
-pub returns-then-good : goal.returns-then-good
-returns-then-good c = (
-  λ _. record { left_bits = c.lower_beside.ensures.0; left≤ = c.lower_beside.ensures.1; open_same = refl; path_none = refl; best_lower = c.lower.ensures },
-  λ f. absurd_bool c.if-good.true f,
-)
-
-pub with_bit-one-requires : goal.with_bit-one-requires
-with_bit-one-requires c =
-    let fits : c.args.top.number < 64 =
-    le_trans c.requires.left_bound.1 (laid_accepted _ c.requires.plan_value).interactions≤ in
-    fits
-
 pub returns : goal.returns
 returns c =
     let fits : c.args.top.number < 64 =

@@ -6,18 +6,16 @@ use native.Mathlib.Nat.{lt_of_le_of_lt}
 use native.Mathlib.Omega.{arith}
 use Rattle.semantics.specs.Bytes.{bit}
 use Rattle.semantics.specs.Plan.{interactions, below}
-use Rattle.semantics.specs.Code.{State}
 use Rattle.semantics.specs.Move.{Configuration, enabled, after, good}
 use Rattle.semantics.proofs.Basics.{bool_cases}
 use Rattle.semantics.proofs.Ranking.{commit_enabled}
-use Rattle.choices.specs.Choices.{chosen_table}
+use Rattle.choices.specs.Choices.{chosen_table, ChosenIn}
 use Rattle.choices.proofs.ChoiceLaws.{table_in}
 use Rattle.ranks.proofs.StandingLaws.{stands_in}
-use Rattle.lane.specs.Runs.{lent, Sized}
-use Rattle.layout.proofs.Sections.{laid_accepted}
+use Rattle.layout.specs.Runs.{state_of, configuration_in}
 use Rattle.moves.specs.declared.search.Sought.{Sought}
-use Rattle.moves.proofs.SearchLaws.{ends_good, sized_same}
-use Rattle.moves.proofs.SeekLaws.{Seeks, LeftOrAbove, OnPath, path_empty, path_bad, reached_up, seeks_start, top-held, top_inside, seeks_next, seeks_less, seeks_done}
+use Rattle.moves.proofs.SearchLaws.{ends_good}
+use Rattle.moves.proofs.SeekLaws.{Seeks, LeftOrAbove, OnPath, path_empty, path_bad, reached_up, seeks_start, top-held, top_inside, seeks_next, seeks_less, seeks_found, seeks_none, best_is}
 use borrow.Author.Rules.{rules}
 use Rattle.moves.proofs.search.safe_move.Goals as goal
 use Rattle.moves.proofs.search.safe_move.Goals.{After-climb-top, After-foot, After-good, After-loop-s, After-narrowed-next, At-loop-s}
@@ -39,81 +37,72 @@ risen c =
 
 inside : (c : After-climb-top) → c.climb-top.result.number < interactions c.args.plan.now
 inside c =
-    top_inside c.args.plan.now (lent c.args.locations.now c.args.ports.now c.args.values.now c.args.oracles) c.args.moves c.requires.moves_bound.0 c.requires.moves_bound.1 c.requires.by_index c.loop-s.s c.loop-s.s c.climb-top.result.path c.climb-top.result.number
+    top_inside c.args.plan.now (configuration_in c.args.run.now) c.args.moves c.requires.moves_bound.0 c.requires.moves_bound.1 c.requires.by_index c.loop-s.s c.loop-s.s c.climb-top.result.path c.climb-top.result.number
     c.loop-s.invariant.0 c.climb-top.ensures.number_value.0
 
--- a move made of what is in the arrays is made of the state
-same : (c : At-loop-s) → (n : ℕ) → after c.args.plan.now (lent c.loop-s.places c.loop-s.last c.loop-s.numbers c.args.oracles) n ≡ after c.args.plan.now (lent c.args.locations.now c.args.ports.now c.args.values.now c.args.oracles) n
-same c = λ n. ap (λ (x : State). after c.args.plan.now (record { state = x; oracles = c.args.oracles }) n) c.loop-s.invariant.1
+-- a move made of what the trial holds is made of the run
+same : (c : At-loop-s) → (n : ℕ) → after c.args.plan.now (configuration_in c.loop-s.trial) n ≡ after c.args.plan.now (configuration_in c.args.run.now) n
+same c = λ n. ap (λ (x : Configuration). after c.args.plan.now x n) c.loop-s.invariant.1
 
--- the arrays are as long as those of the state
-sized : (c : At-loop-s) → Sized c.loop-s.places c.loop-s.last c.loop-s.numbers
-sized c = sized_same c.loop-s.places c.loop-s.last c.loop-s.numbers _ c.loop-s.invariant.1 c.requires.sized.0
+-- what is asked for an enabled move to be made in the trial
+may_try : (c : At-loop-s) → (n : ℕ) → let p = c.args.plan.now in n < interactions p → enabled p (state_of c.args.run.now.state) n ≡ true
+    → (n < interactions p) × ChosenIn p (state_of c.loop-s.trial.state) c.args.chosen.now n × (enabled p (state_of c.loop-s.trial.state) n ≡ true)
+may_try c n l on =
+    let p = c.args.plan.now in
+    let e = c.loop-s.invariant.1 in
+    (l, table_in p _ n c.requires.plan_value l _ (c.requires.chosen_value.0 ∙ ap (λ (x : Configuration). chosen_table p x.state) (sym e)), ap (λ (x : Configuration). enabled p x.state n) e ∙ on)
 
 -- whether it ends good, by what is tested
-judged : (c : After-good) → c.good.result ≡ good c.args.plan.now (after c.args.plan.now (lent c.args.locations.now c.args.ports.now c.args.values.now c.args.oracles) c.climb-top.result.number)
+judged : (c : After-good) → c.good.result ≡ good c.args.plan.now (after c.args.plan.now (configuration_in c.args.run.now) c.climb-top.result.number)
 judged c =
     c.good.ensures
-    ∙ ends_good c.args.plan.now _ (after c.args.plan.now (lent c.args.locations.now c.args.ports.now c.args.values.now c.args.oracles) c.climb-top.result.number) (c.after-q.ensures.result_after.0 ∙ (same (goal.at.After-good c).At-loop-s) c.climb-top.result.number)
+    ∙ ends_good c.args.plan.now _ (after c.args.plan.now (configuration_in c.args.run.now) c.climb-top.result.number) (c.after.ensures.run_after.0 ∙ (same (goal.at.After-good c).At-loop-s) c.climb-top.result.number)
 
 -- what is known when it was judged
-known : (c : After-narrowed-next) → Seeks c.args.plan.now (lent c.args.locations.now c.args.ports.now c.args.values.now c.args.oracles) c.args.moves c.narrowed-next.result
+known : (c : After-narrowed-next) → Seeks c.args.plan.now (configuration_in c.args.run.now) c.args.moves c.narrowed-next.result
 known c =
-    seeks_next c.args.plan.now (lent c.args.locations.now c.args.ports.now c.args.values.now c.args.oracles) c.args.moves c.requires.moves_bound.0 c.requires.moves_bound.1 c.requires.by_index c.loop-s.s c.narrowed-next.result
+    seeks_next c.args.plan.now (configuration_in c.args.run.now) c.args.moves c.requires.moves_bound.0 c.requires.moves_bound.1 c.requires.by_index c.loop-s.s c.narrowed-next.result
     c.climb-top.result.path c.climb-top.result.number c.loop-s.invariant.0 c.climb-top.ensures.number_value.0 c.good.result (judged (goal.at.After-narrowed-next c).After-good) c.narrowed-next.ensures.0 c.narrowed-next.ensures.1
 
 -- after the loop nothing is left
 none_left : (c : After-loop-s) → c.loop-s.s.left ≡ 0
 none_left c = omega arith
 
-pub interactions-count-requires : goal.interactions-count-requires
-interactions-count-requires c = (laid_accepted _ c.requires.plan_value).long
-
 pub loop-s-init : goal.loop-s-init
-loop-s-init c =
-    let held : Configuration = lent c.args.locations.now c.args.ports.now c.args.values.now c.args.oracles in (
-      seeks_start c.args.plan.now held c.args.moves c.requires.moves_bound.0 c.requires.moves_bound.1 c.requires.by_index c.interactions-count.result
-          c.interactions-count.ensures.0,
-      c.requires.sized.1,
-      path_empty c.args.plan.now c.args.moves c.args.moves 0 refl,
-    )
+loop-s-init c = (
+  seeks_start c.args.plan.now (configuration_in c.args.run.now) c.args.moves c.requires.moves_bound.0 c.requires.moves_bound.1 c.requires.by_index,
+  c.requires.trial_value,
+  path_empty c.args.plan.now c.args.moves c.args.moves 0 refl,
+)
 
-pub climb-top-requires : goal.climb-top-requires
-climb-top-requires c =
-    record { plan_value = c.requires.plan_value; moves_bound = ((open_inside (goal.at.climb-top-requires c).At-loop-s), (at_foot (goal.at.climb-top-requires c).After-foot).0) }
-
-pub after-q-requires : goal.after-q-requires
-after-q-requires c =
-    let held : Configuration = lent c.args.locations.now c.args.ports.now c.args.values.now c.args.oracles in
-    let sought : Sought = c.loop-s.s in
-    let named : bit c.args.moves c.climb-top.result.number ≡ true =
-    top-held c.args.plan.now held c.args.moves c.requires.moves_bound.0 c.requires.moves_bound.1 c.requires.by_index sought sought c.climb-top.result.path c.climb-top.result.number
+pub after-requires-clause-i_bound : goal.after-requires-clause-i_bound
+after-requires-clause-i_bound c =
+    let at = goal.at.after-requires-clause-i_bound c in
+    let n = c.climb-top.result.number in
+    let named : bit c.args.moves n ≡ true =
+    top-held c.args.plan.now (configuration_in c.args.run.now) c.args.moves c.requires.moves_bound.0 c.requires.moves_bound.1 c.requires.by_index c.loop-s.s c.loop-s.s c.climb-top.result.path n
     c.loop-s.invariant.0 c.climb-top.ensures.number_value.0 in
-    let p = c.args.plan.now in
-    let e = c.loop-s.invariant.1 in
-    let n = c.climb-top.result.number in record { plan_value = c.requires.plan_value; i_bound = ((inside (goal.at.after-q-requires c).After-climb-top), table_in p _ n c.requires.plan_value (inside (goal.at.after-q-requires c).After-climb-top) _ (c.requires.chosen_value.0 ∙ ap (chosen_table p) (sym e)), ap (λ (x : State). enabled p x n) e ∙ c.requires.moves_bound.1 n named); oracles_value = (c.requires.chosen_value.1, (sized (goal.at.after-q-requires c).At-loop-s)) }
+    may_try at.At-loop-s n (inside at.After-climb-top) (c.requires.moves_bound.1 n named)
 
-pub good-requires : goal.good-requires
-good-requires c = record { plan_value = c.requires.plan_value; states_value = c.after-q.ensures.result_after.1 }
+pub narrowed-next-requires-clause-left_bound : goal.narrowed-next-requires-clause-left_bound
+narrowed-next-requires-clause-left_bound c =
+    (lt_of_le_of_lt c.loop-s.invariant.0.left≤ c.requires.moves_bound.0, inside (goal.at.narrowed-next-requires-clause-left_bound c).After-climb-top)
 
-pub narrowed-next-requires : goal.narrowed-next-requires
-narrowed-next-requires c =
-    record { plan_value = c.requires.plan_value; left_bound = (lt_of_le_of_lt c.loop-s.invariant.0.left≤ c.requires.moves_bound.0, (inside (goal.at.narrowed-next-requires c).After-climb-top)) }
-
-pub returns-then-next-n : goal.returns-then-next-n
-returns-then-next-n c =
-    let held : Configuration = lent c.args.locations.now c.args.ports.now c.args.values.now c.args.oracles in
-    record { sized_2 = c.after-q.ensures.sized; number_value = sym c.if-next-n.true ∙ seeks_done c.args.plan.now held c.args.moves c.narrowed-next.result (known (goal.at.returns-then-next-n c).After-narrowed-next) c.if-next-eq0.true; oracles_after = λ _. c.after-q.ensures.result_after.0 ∙ (same (goal.at.returns-then-next-n c).At-loop-s) c.climb-top.result.number }
+pub returns-then-eq : goal.returns-then-eq
+returns-then-eq c =
+    let n = c.climb-top.result.number in
+    let k = (known (goal.at.returns-then-eq c).After-narrowed-next) in
+    let (e, l) = seeks_found c.args.plan.now (configuration_in c.args.run.now) c.args.moves c.narrowed-next.result k c.if-next-eq0.true n (best_is _ n (sym c.eq.ensures ∙ c.if-eq.true)) in
+    (e, l, c.after.ensures.run_after.0 ∙ (same (goal.at.returns-then-eq c).At-loop-s) n)
 
 pub loop-s-smaller : goal.loop-s-smaller
 loop-s-smaller c =
     let word : c.args.moves < 2 ^ 64 = search rules in
-    let held : Configuration = lent c.args.locations.now c.args.ports.now c.args.values.now c.args.oracles in
     let sought : Sought = c.loop-s.s in
     let at_top : LeftOrAbove c.args.plan.now c.loop-s.s.open c.loop-s.s.left c.climb-top.result.number =
     (risen (goal.at.loop-s-smaller c).After-climb-top) c.climb-top.result.number (stands_in _ c.loop-s.s.open c.climb-top.result.number c.climb-top.ensures.number_value.0) c.climb-top.ensures.number_value.1 in
     let less : c.narrowed-next.result.open + c.narrowed-next.result.left < c.loop-s.s.open + c.loop-s.s.left =
-    seeks_less c.args.plan.now held c.args.moves c.requires.moves_bound.0 c.requires.moves_bound.1 c.requires.by_index sought c.narrowed-next.result
+    seeks_less c.args.plan.now (configuration_in c.args.run.now) c.args.moves c.requires.moves_bound.0 c.requires.moves_bound.1 c.requires.by_index sought c.narrowed-next.result
     c.climb-top.result.path c.climb-top.result.number c.loop-s.invariant.0 c.climb-top.ensures.number_value.0 word at_top.1.0 at_top.1.1 at_top.1.2 c.good.result
     c.narrowed-next.ensures.0 c.narrowed-next.ensures.1 in
     less
@@ -129,30 +118,19 @@ loop-s-preserved c =
     (λ f. path_bad p sought c.narrowed-next.result c.climb-top.result.path c.climb-top.result.number (open_inside (goal.at.loop-s-preserved c).At-loop-s) c.climb-top.ensures.number_value.0 steps (c.narrowed-next.ensures.1 f)) in
     ((known (goal.at.loop-s-preserved c).After-narrowed-next), refl, onward)
 
-pub returns-then-s-count : goal.returns-then-s-count
-returns-then-s-count c =
-    let held : Configuration = lent c.args.locations.now c.args.ports.now c.args.values.now c.args.oracles in
-    let sought : Sought = c.loop-s.s in
-    record {
-      sized_2 = (sized (goal.at.returns-then-s-count c).At-loop-s);
-      number_value = sym c.if-s-count.true ∙ seeks_done c.args.plan.now held c.args.moves sought c.loop-s.invariant.0 (none_left (goal.at.returns-then-s-count c).After-loop-s);
-      oracles_after = λ q. absurd (not-below c.interactions-count.ensures.0 q);
-    }
-  where
-    not-below : {m n : ℕ} → m ≡ n → m < n → ⊥
-    not-below e h = omega arith
+pub returns-in_err-n : goal.returns-in_err-n
+returns-in_err-n c =
+    rw c.from_residual.ensures
+    (seeks_none c.args.plan.now (configuration_in c.args.run.now) c.args.moves c.loop-s.s c.loop-s.invariant.0 (none_left (goal.at.returns-in_err-n c).After-loop-s) c.in_err-n.was)
 
-pub after-q-requires-2 : goal.after-q-requires-2
-after-q-requires-2 c =
-    let held : Configuration = lent c.args.locations.now c.args.ports.now c.args.values.now c.args.oracles in
-    let best-inside : c.loop-s.s.best < interactions c.args.plan.now = omega (arith, c.loop-s.invariant.0.best≤, c.interactions-count.ensures.0) in
-    let best-enabled : enabled c.args.plan.now held.state c.loop-s.s.best ≡ true =
-    commit_enabled c.args.plan.now held c.loop-s.s.best (c.loop-s.invariant.0.best_allowed best-inside) in
-    let p = c.args.plan.now in
-    let e = c.loop-s.invariant.1 in record { plan_value = c.requires.plan_value; i_bound = (best-inside, table_in p _ c.loop-s.s.best c.requires.plan_value best-inside _ (c.requires.chosen_value.0 ∙ ap (chosen_table p) (sym e)), ap (λ (x : State). enabled p x c.loop-s.s.best) e ∙ best-enabled); oracles_value = (c.requires.chosen_value.1, (sized (goal.at.after-q-requires-2 c).At-loop-s)) }
+pub after-requires-2-clause-i_bound : goal.after-requires-2-clause-i_bound
+after-requires-2-clause-i_bound c =
+    let n = c.in_ok-n.n in
+    let (l, m) = c.loop-s.invariant.0.best_allowed n c.in_ok-n.was in
+    may_try (goal.at.after-requires-2-clause-i_bound c).At-loop-s n l (commit_enabled c.args.plan.now (configuration_in c.args.run.now) n m)
 
 pub returns : goal.returns
 returns c =
-    let held : Configuration = lent c.args.locations.now c.args.ports.now c.args.values.now c.args.oracles in
-    let sought : Sought = c.loop-s.s in
-    record { sized_2 = c.after-q-2.ensures.sized; number_value = seeks_done c.args.plan.now held c.args.moves sought c.loop-s.invariant.0 (none_left (goal.at.returns c).After-loop-s); oracles_after = λ _. c.after-q-2.ensures.result_after.0 ∙ (same (goal.at.returns c).At-loop-s) c.loop-s.s.best }
+    let n = c.in_ok-n.n in
+    let (e, l) = seeks_found c.args.plan.now (configuration_in c.args.run.now) c.args.moves c.loop-s.s c.loop-s.invariant.0 (none_left (goal.at.returns c).After-loop-s) n c.in_ok-n.was in
+    (e, l, c.after-2.ensures.run_after.0 ∙ (same (goal.at.returns c).At-loop-s) n)

@@ -10,12 +10,6 @@ rank_row-requires c = (laid_accepted _ c.requires.plan_value, held_inside _ c.ar
 pub loop-above-init : goal.loop-above-init
 loop-above-init c = rw c.rank_row.ensures (climb_start c.args.plan.now c.args.moves c.args.path c.args.i c.requires.moves_bound.1)
 
-pub highest_bit-n-requires : goal.highest_bit-n-requires
-highest_bit-n-requires c = omega (arith, c.loop-above.invariant.small)
-
-pub with_bit-steps-requires : goal.with_bit-steps-requires
-with_bit-steps-requires c = c.highest_bit-n.ensures.2
-
 pub rank_row-requires-in-loop-above : goal.rank_row-requires-in-loop-above
 rank_row-requires-in-loop-above c =
     let l = c.loop-above in
@@ -34,7 +28,7 @@ loop-above-preserved c =
     let n = c.highest_bit-n.result in
     rw (c.rank_row-in-loop-above.ensures, c.with_bit-steps.ensures) (climb_next c.args.plan.now c.requires.plan_value c.args.moves c.requires.moves_bound.0 c.args.path c.args.i l.n l.steps l.above n l.invariant c.highest_bit-n.ensures.0 c.requires.moves_bound.1)
 
-pub returns : goal.returns
-returns c =
+pub returns-clause-number_value : goal.returns-clause-number_value
+returns-clause-number_value c =
     let l = c.loop-above in
-    record { number_value = (climb_top c.args.plan.now c.args.moves c.args.path c.args.i l.n l.steps l.above l.invariant (omega arith), l.invariant.reached); by_index = l.invariant.stepped }
+    (climb_top c.args.plan.now c.args.moves c.args.path c.args.i l.n l.steps l.above l.invariant (omega arith), l.invariant.reached)

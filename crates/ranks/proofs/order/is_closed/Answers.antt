@@ -17,7 +17,7 @@ use Rattle.ranks.specs.RankRow.{covers, Reached}
 use Rattle.ranks.proofs.RankRows.{bounded_at}
 use Rattle.ranks.proofs.RankWalk.{Tried, left_start, tried, left_next, left_done, closed-covers}
 use Rattle.ranks.proofs.order.is_closed.Goals as goal
-use Rattle.ranks.proofs.order.is_closed.Goals.{After-inside, After-inside-in-loop-left, After-lowest_bit, After-lowest_bit-in-loop-left}
+use Rattle.ranks.proofs.order.is_closed.Goals.{After-inside, After-inside-in-loop-left, After-lowest_bit, After-lowest_bit-in-loop-left, After-highest_bit-high}
 
 -- a mask without its lowest number
 cut : (m j r : ℕ) → j ≡ lowest 64 (bit m) → ((k : ℕ) → bit r k ≡ (bit m k && not (eqb k (lowest 64 (bit m))))) → (k : ℕ) → bit r k ≡ (bit m k && not (eqb k j))
@@ -56,6 +56,19 @@ rest_cut : (c : After-lowest_bit-in-loop-left) → (k : ℕ) → bit c.without_l
 rest_cut c =
     cut c.loop-left.left c.lowest_bit-in-loop-left.result c.without_lowest-rest.result c.lowest_bit-in-loop-left.ensures.0 c.without_lowest-rest.ensures.0
 
+-- the lowest and the highest of what is left are numbers of the row
+low_in : (c : After-lowest_bit-in-loop-left) → bit c.args.row c.lowest_bit-in-loop-left.result ≡ true
+low_in c =
+    let l = c.loop-left in
+    let low : ℕ = c.lowest_bit-in-loop-left.result in
+    l.invariant.inside low (lowest-held l.left low c.lowest_bit-in-loop-left.ensures.0 (omega arith) (omega arith))
+
+high_in : (c : After-highest_bit-high) → bit c.args.row c.highest_bit-high.result ≡ true
+high_in c =
+    let l = c.loop-left in
+    let high : ℕ = c.highest_bit-high.result in
+    l.invariant.inside high (and_both (bit l.left high) (not (eqb high c.lowest_bit-in-loop-left.result)) (sym (rest_cut (goal.at.After-highest_bit-high c).After-lowest_bit-in-loop-left high) ∙ c.highest_bit-high.ensures.0)).0
+
 -- what `inside` answers of both
 seen_both : (c : After-inside-in-loop-left) → c.inside-in-loop-left.result ≡ (covers c.args.plan.now c.args.row c.lowest_bit-in-loop-left.result && covers c.args.plan.now c.args.row c.highest_bit-high.result)
 seen_both c =
@@ -90,12 +103,7 @@ loop-left-init c =
 
 pub rank_row-low-requires : goal.rank_row-low-requires
 rank_row-low-requires c =
-    let row : ℕ = c.args.row in
-    let low : ℕ = c.lowest_bit-in-loop-left.result in
-    let low-in : bit row low ≡ true =
-    let l = c.loop-left in
-    l.invariant.inside low (lowest-held l.left low c.lowest_bit-in-loop-left.ensures.0 (omega arith) (omega arith)) in
-    (c.requires.0, (named (goal.at.rank_row-low-requires c).After-lowest_bit) low c.lowest_bit-in-loop-left.ensures.1 low-in)
+    (c.requires.0, named (goal.at.rank_row-low-requires c).After-lowest_bit c.lowest_bit-in-loop-left.result c.lowest_bit-in-loop-left.ensures.1 (low_in (goal.at.rank_row-low-requires c).After-lowest_bit-in-loop-left))
 
 -- the lowest is the last
 pub returns-then-rest-eq0 : goal.returns-then-rest-eq0
@@ -103,9 +111,7 @@ returns-then-rest-eq0 c =
     let plan : Plan = c.args.plan.now in
     let row : ℕ = c.args.row in
     let low : ℕ = c.lowest_bit-in-loop-left.result in
-    let low-in : bit row low ≡ true =
-    let l = c.loop-left in
-    l.invariant.inside low (lowest-held l.left low c.lowest_bit-in-loop-left.ensures.0 (omega arith) (omega arith)) in
+    let low-in = low_in (goal.at.returns-then-rest-eq0 c).After-lowest_bit-in-loop-left in
     let seen_last : c.inside-then-rest-eq0.result ≡ covers plan row low =
     unfold covers in c.inside-then-rest-eq0.ensures ∙ ap (λ (m : ℕ). every 64 (λ k. implies (bit m k) (bit row k))) c.rank_row-low.ensures in
     let l = c.loop-left in
@@ -120,34 +126,21 @@ returns-then-rest-eq0 c =
 
 pub rank_row-requires : goal.rank_row-requires
 rank_row-requires c =
-    let row : ℕ = c.args.row in
-    let low : ℕ = c.lowest_bit-in-loop-left.result in
-    let high : ℕ = c.highest_bit-high.result in
-    let high-in : bit row high ≡ true =
-    let l = c.loop-left in
-    l.invariant.inside high (and_both (bit l.left high) (not (eqb high low)) (sym ((rest_cut (goal.at.rank_row-requires c).After-lowest_bit-in-loop-left) high) ∙ c.highest_bit-high.ensures.0)).0 in
-    (c.requires.0, (named (goal.at.rank_row-requires c).After-lowest_bit) high c.highest_bit-high.ensures.2 high-in)
+    (c.requires.0, named (goal.at.rank_row-requires c).After-lowest_bit c.highest_bit-high.result c.highest_bit-high.ensures.2 (high_in (goal.at.rank_row-requires c).After-highest_bit-high))
 
 pub returns-then-not-inside-2 : goal.returns-then-not-inside-2
 returns-then-not-inside-2 c =
     let plan : Plan = c.args.plan.now in
     let row : ℕ = c.args.row in
     let low : ℕ = c.lowest_bit-in-loop-left.result in
-    let low-in : bit row low ≡ true =
-    let l = c.loop-left in
-    l.invariant.inside low (lowest-held l.left low c.lowest_bit-in-loop-left.ensures.0 (omega arith) (omega arith)) in
+    let low-in = low_in (goal.at.returns-then-not-inside-2 c).After-lowest_bit-in-loop-left in
     let high : ℕ = c.highest_bit-high.result in
-    let high-in : bit row high ≡ true =
-    let l = c.loop-left in
-    l.invariant.inside high (and_both (bit l.left high) (not (eqb high low)) (sym ((rest_cut (goal.at.returns-then-not-inside-2 c).After-lowest_bit-in-loop-left) high) ∙ c.highest_bit-high.ensures.0)).0 in
+    let high-in = high_in (goal.at.returns-then-not-inside-2 c).After-highest_bit-high in
     let within = closed-covers plan row in (
       λ t. absurd_bool t refl,
       λ e. absurd_bool (both_and (within e low c.lowest_bit-in-loop-left.ensures.1 low-in) (within e high c.highest_bit-high.ensures.2 high-in))
           (sym (seen_both (goal.at.returns-then-not-inside-2 c).After-inside-in-loop-left) ∙ c.if-not-inside-2.true),
     )
-
-pub loop-left-smaller : goal.loop-left-smaller
-loop-left-smaller c = omega (arith, c.without-left-in-loop-left.ensures.1, c.without_lowest-rest.ensures.1)
 
 pub loop-left-preserved : goal.loop-left-preserved
 loop-left-preserved c =
@@ -155,10 +148,8 @@ loop-left-preserved c =
     let row : ℕ = c.args.row in
     let low : ℕ = c.lowest_bit-in-loop-left.result in
     let high : ℕ = c.highest_bit-high.result in
-    let high-in : bit row high ≡ true =
-    c.loop-left.invariant.inside high (and_both (bit c.loop-left.left high) (not (eqb high low)) (sym ((rest_cut (goal.at.loop-left-preserved c).After-lowest_bit-in-loop-left) high) ∙ c.highest_bit-high.ensures.0)).0 in
-    let low-in : bit row low ≡ true =
-    c.loop-left.invariant.inside low (lowest-held c.loop-left.left low c.lowest_bit-in-loop-left.ensures.0 (omega arith) (omega arith)) in
+    let high-in = high_in (goal.at.loop-left-preserved c).After-highest_bit-high in
+    let low-in = low_in (goal.at.loop-left-preserved c).After-lowest_bit-in-loop-left in
     let union : bit_or c.rank_row-low.result c.rank_row.result ≡ bit_or (rank_row plan low) (rank_row plan high) =
     ap₂ bit_or c.rank_row-low.ensures c.rank_row.ensures in
     let both : (covers plan row low ≡ true) × (covers plan row high ≡ true) =

@@ -7,14 +7,11 @@ use Rattle.semantics.proofs.Masks.{bit-zero}
 use lib.Dec.{ltb}
 use native.Mathlib.Omega.{arith}
 use Prim.Native.Nat.{ℕ, ◌<◌}
-use mathlib.Core.Path.{◌≡◌, sym, ap, ◌∙◌, subst}
+use mathlib.Core.Path.{◌≡◌, sym, ◌∙◌, subst}
 use Rattle.ranks.proofs.order.ranks_ok.Goals as goal
 
 pub loop-i-init : goal.loop-i-init
-loop-i-init c = (omega arith, (λ j h. absurd (omega arith)), λ k t. absurd (absurd_bool t (bit-zero k)))
-
-pub row_ok-requires : goal.row_ok-requires
-row_ok-requires c = record { laid = (c.requires, omega arith, λ j. c.first_bits-all.ensures j ∙ ap (ltb j) c.interactions-count.ensures.0); told = c.loop-i.invariant.2 }
+loop-i-init c = ((λ j h. absurd (omega arith)), λ k t. absurd (absurd_bool t (bit-zero k)))
 
 pub returns-then-not-row_ok : goal.returns-then-not-row_ok
 returns-then-not-row_ok c =
@@ -27,8 +24,7 @@ loop-i-preserved c =
     let l = c.loop-i in
     let p = c.args.plan.now in
     let now : RowPassed p l.i = c.row_ok.ensures.0 c.if-not-row_ok.false in (
-      omega arith,
-      (λ j h. bool_cases (ltb j l.i) (λ t. l.invariant.1 j (ltb-true j l.i t)) (λ f. let q : l.i ≡ j = omega (arith, ltb-false j l.i f) in subst (RowPassed p) q now)),
+      (λ j h. bool_cases (ltb j l.i) (λ t. l.invariant.0 j (ltb-true j l.i t)) (λ f. let q : l.i ≡ j = omega (arith, ltb-false j l.i f) in subst (RowPassed p) q now)),
       subst (Told p) (sym c.rank_row-before.ensures) now.told,
     )
 
@@ -37,4 +33,4 @@ returns c =
     let l = c.loop-i in
     let p = c.args.plan.now in
     let e : l.i ≡ interactions p = omega arith in
-    sym (rows_passed p (λ i h. l.invariant.1 i (subst (λ (n : ℕ). i < n) (sym e) h))) ∙ rows_ranks p c.requires.interactions≤
+    sym (rows_passed p (λ i h. l.invariant.0 i (subst (λ (n : ℕ). i < n) (sym e) h))) ∙ rows_ranks p c.requires.interactions≤

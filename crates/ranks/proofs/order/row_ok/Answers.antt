@@ -24,9 +24,6 @@ returns-then-not-inside c =
     let a = c.args in
     (λ t. absurd_bool t refl, λ t. row_unbounded a.plan.now a.i c.rank_row-row.result c.rank_row-row.ensures (sym (bounded_is (goal.at.returns-then-not-inside c).After-inside) ∙ c.if-not-inside.true) ∙ t)
 
-pub lies_below-requires : goal.lies_below-requires
-lies_below-requires c = (c.requires.laid.0, c.requires.laid.1, c.requires.laid.1)
-
 pub returns-then-lies_below : goal.returns-then-lies_below
 returns-then-lies_below c =
     let a = c.args in

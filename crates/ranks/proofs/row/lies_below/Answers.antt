@@ -1,12 +1,8 @@
 use mathlib.Core.Path.{ap, ◌∙◌}
 use Prim.Native.Nat.{ℕ}
-use native.Mathlib.Omega.{arith}
 use Rattle.semantics.specs.Bytes.{bit}
 use Rattle.semantics.specs.Plan.{below}
 use Rattle.ranks.proofs.row.lies_below.Goals as goal
-
-pub bit-requires : goal.bit-requires
-bit-requires c = omega (arith, c.requires.1, c.requires.2, c.requires.0.interactions≤)
 
 pub returns : goal.returns
 unfolding below

@@ -1,10 +1,7 @@
 use Rattle.semantics.specs.Calls.{list}
-use Rattle.engine.specs.Answers.{answer_of}
-use Rattle.engine.proofs.CallLaws.{parts, called-refused}
+use Rattle.engine.proofs.CallLaws.{parts}
+use Rattle.engine.proofs.ReadLaws.{ends_refused}
 use Rattle.walks.proofs.list.hand_in_from.Goals as goal
 
-pub returns-then-image-ne-LENGTH : goal.returns-then-image-ne-LENGTH
-unfolding answer_of
-returns-then-image-ne-LENGTH c =
-    let (e, some) = c.unreadable.ensures in
-    parts (called-refused c.args.plan.now c.args.image.now (list c.args.moves.now) c.unreadable.result e some)
+pub returns-in_default : goal.returns-in_default
+returns-in_default c = parts (ends_refused _ _ (list c.args.moves.now) _ c.unreadable.ensures)

@@ -9,4 +9,4 @@ returns-then-not-ranked c = none_above c.args.plan.now c.args.v _ c.args.i (eqb-
 pub leads_above-requires : goal.leads_above-requires
 leads_above-requires c =
     let q = c.requires.i_bound in
-    record { plan_value = c.requires.plan_value; i_bound = (q.0, c.requires.ranked_value.1 c.if-not-ranked.false, q.1); sized = q.2 }
+    record { plan_value = c.requires.plan_value; i_bound = (q.0, c.requires.ranked_value.1 c.if-not-ranked.false, q.1) }

@@ -1,7 +1,0 @@
-use Rattle.semantics.specs.Bytes.{u16}
-use borrow.Author.Rules.{rules}
-use Rattle.layout.proofs.header.variable_byte.Goals as goal
-
-pub returns : goal.returns
-unfolding u16
-returns c = search rules
