@@ -77,6 +77,11 @@ module _ (p : Plan) (r : Role) (names : ℕ → Bool) (k i : ℕ) where
       (λ x y. let w = depth_before p r names k n x y (suc i) b in
       counted.none-ne-some w.0 (sym (one_more d h ∙ held_none (deeper p r names (decode (word p (k + i))) (counted.some d)) q) ∙ w.1))
 
+-- the depth that the rules count, against the one that a span must end with
+pub ends_at_lem : (f d : ℕ) (o : counted.Option ℕ) → o ≡ counted.some d → ends_at f o ≡ eqb d f
+unfolding ends_at
+ends_at_lem f d o e = ap (ends_at f) e
+
 pub ends_held : (f : ℕ) (o : counted.Option ℕ) → option_eq eqb (held o) (Some f) ≡ ends_at f o
 unfolding ends_at
 ends_held f counted.none = refl

@@ -211,50 +211,70 @@ table_in p s i h l out e =
 
 -- ---- the pass for one interaction
 
--- For each part of interaction i the table has the lowest of the transitions below n that it can use.
-unfoldable pub FoundIn : Plan → State → ℕ → List ℕ → ℕ → Type 0
-FoundIn p s i out n = (c : ℕ) → c < components p → takes_part p i c ≡ true → chosen_by p out i c ≡ lowest_or (transitions p) n (ready p s c (port_in p i c))
+-- The table when the transitions below n that go through a port of interaction i were considered.
+pub record FoundIn (p : Plan) (s : State) (i : ℕ) (out : List ℕ) (n : ℕ) : Type 0 where
+  pub long : length out ≡ 256
+  pub found : (c : ℕ) → c < components p → takes_part p i c ≡ true → chosen_by p out i c ≡ lowest_or (transitions p) n (ready p s c (port_in p i c))
 
 module _ (p : Plan) (s : State) (i : ℕ) where
   pub found_none : (out : List ℕ) → plan_refusal p ≡ 0 → i < interactions p → out ≡ replicate 256 (transitions p) → FoundIn p s i out 0
-  unfolding FoundIn
-  found_none out h l e c m t =
-      let w = part_place p i c h l m t in
-      ap (λ (q : List ℕ). get_or q (16 * c + port_in p i c) 0) e
-      ∙ get_or-replicate 256 (16 * c + port_in p i c) (transitions p) 0 (slot_lt c (port_in p i c) w.0 w.1)
-      ∙ sym (or_none (transitions p) (ready p s c (port_in p i c)))
+  found_none out h l e =
+      record {
+        long = ap (λ (q : List ℕ). length q) e ∙ length-replicate 256 (transitions p);
+        found =
+            λ c m t.
+            let w = part_place p i c h l m t in
+            ap (λ (q : List ℕ). get_or q (16 * c + port_in p i c) 0) e
+            ∙ get_or-replicate 256 (16 * c + port_in p i c) (transitions p) 0 (slot_lt c (port_in p i c) w.0 w.1)
+            ∙ sym (or_none (transitions p) (ready p s c (port_in p i c)));
+      }
 
   pub found_all : (out : List ℕ) (n : ℕ) → n ≡ transitions p → FoundIn p s i out n → ChosenIn p s out i
-  unfolding FoundIn chosen_in chosen
+  unfolding chosen_in chosen
   found_all out n e f =
       record {
         used =
             λ c m t.
-            f c m t ∙ ap (λ (k : ℕ). lowest_or (transitions p) k (ready p s c (port_in p i c))) e
+            f.found c m t ∙ ap (λ (k : ℕ). lowest_or (transitions p) k (ready p s c (port_in p i c))) e
             ∙ or_all (transitions p) (ready p s c (port_in p i c));
       }
 
   module _ (out : List ℕ) (t : ℕ) (m : t < transitions p) (f : FoundIn p s i out t) where
     -- transition t was considered
-    pub found_step : (r : List ℕ) → plan_refusal p ≡ 0 → i < interactions p → length out ≡ 256 → r ≡ noted p s t out → FoundIn p s i r (t + 1)
-    unfolding FoundIn
-    found_step r h l n e c q u =
-        let w = part_place p i c h l q u in
-        let k = 16 * c + port_in p i c in
-        let g = ready p s c (port_in p i c) in
-        ap (λ (x : List ℕ). get_or x k 0) e
-        ∙ noted-at p s t out n (slot_lt _ _ (component_lt p h t m) (port_lt p h t m)) k
-        ∙ ap₂ (λ (x : ℕ) (b : Bool). cond (eqb x (transitions p) && b) t x) (f c q u) (sym (ready_at p s t c (port_in p i c) (port_lt p h t m) w.1))
-        ∙ sym (or_next (transitions p) t g m) ∙ ap (λ (x : ℕ). lowest_or (transitions p) x g) (sym (add-one t))
+    pub found_step : (r : List ℕ) → plan_refusal p ≡ 0 → i < interactions p → r ≡ noted p s t out → length r ≡ 256 → FoundIn p s i r (t + 1)
+    found_step r h l e n =
+        record {
+          long = n;
+          found =
+              λ c q u.
+              let w = part_place p i c h l q u in
+              let k = 16 * c + port_in p i c in
+              let g = ready p s c (port_in p i c) in
+              ap (λ (x : List ℕ). get_or x k 0) e
+              ∙ noted-at p s t out f.long (slot_lt _ _ (component_lt p h t m) (port_lt p h t m)) k
+              ∙ ap₂ (λ (x : ℕ) (b : Bool). cond (eqb x (transitions p) && b) t x) (f.found c q u) (sym (ready_at p s t c (port_in p i c) (port_lt p h t m) w.1))
+              ∙ sym (or_next (transitions p) t g m) ∙ ap (λ (x : ℕ). lowest_or (transitions p) x g) (sym (add-one t));
+        }
 
     -- transition t is not of the interaction
     pub found_skip : (port_in p i (component_of p t) ≡ port_of p t → ⊥) → FoundIn p s i out (t + 1)
-    unfolding FoundIn
-    found_skip e c q u =
-        let g = ready p s c (port_in p i c) in
-        let k = lowest_or (transitions p) t g in
-        f c q u ∙ sym (or_next (transitions p) t g m ∙ cond_no (eqb k (transitions p)) (g t) t k (unready p s i t c e))
-        ∙ ap (λ (x : ℕ). lowest_or (transitions p) x g) (sym (add-one t))
+    found_skip e =
+        record {
+          long = f.long;
+          found =
+              λ c q u.
+              let g = ready p s c (port_in p i c) in
+              let k = lowest_or (transitions p) t g in
+              f.found c q u ∙ sym (or_next (transitions p) t g m ∙ cond_no (eqb k (transitions p)) (g t) t k (unready p s i t c e))
+              ∙ ap (λ (x : ℕ). lowest_or (transitions p) x g) (sym (add-one t));
+        }
+
+-- whether the transition is named, and what becomes of the table in either case
+pub found_join : (p : Plan) (s : State) (i : ℕ) (out : List ℕ) (t : ℕ) → t < transitions p → FoundIn p s i out t → plan_refusal p ≡ 0 → i < interactions p
+    → (named : Bool) (r : List ℕ) → (named ≡ true → (r ≡ noted p s t out) × (length r ≡ 256)) → (named ≡ false → r ≡ out)
+    → (named ≡ false → port_in p i (component_of p t) ≡ port_of p t → ⊥) → FoundIn p s i r (t + 1)
+found_join p s i out t l f h q true r a b o = found_step p s i out t l f r h q (a refl).0 (a refl).1
+found_join p s i out t l f h q false r a b o = subst (λ (x : List ℕ). FoundIn p s i x (t + 1)) (sym (b refl)) (found_skip p s i out t l f (o refl))
 
 -- what the functions of choice.rt stand on
 pub ruleset choosing = (laid_accepted, component_lt, port_lt, guard_taken, chosen_none, chosen_step, chosen_all, found_none, found_step, found_skip, found_all)

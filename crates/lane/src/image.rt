@@ -1,10 +1,10 @@
 // The keeper's tests of an image: its head, and the configuration that it holds.
-ghost use Rattle.std.specs.Prelude.{◌≡◌, ◌&&◌, ◌<◌, [], ◌∷◌, length, eqb};
+ghost use Rattle.std.specs.Prelude.{◌≡◌, ◌&&◌, ◌<◌, [], ◌∷◌, eqb};
 ghost use Rattle.semantics.specs.Bytes.{byte, all_of, every};
 ghost use Rattle.semantics.specs.Plan.{max_components, max_variables, components, variables, interactions, number_byte};
 ghost use Rattle.semantics.specs.Rules.{plan_refusal};
 ghost use Rattle.semantics.specs.Code.{valued};
-ghost use Rattle.semantics.specs.Image.{image_length, head_matches, location_ok, last_port_ok, value_ok, configuration_ok};
+ghost use Rattle.semantics.specs.Image.{head_matches, location_ok, last_port_ok, value_ok, configuration_ok};
 ghost use Rattle.layout.specs.Laid.{Laid};
 ghost use Rattle.layout.specs.Runs.{state_of, configuration_in};
 

@@ -1,10 +1,10 @@
-// The run record, and its passage from an image and back.
+// The passage of the run record from an image and back.
 ghost use Rattle.std.specs.Prelude.{◌≡◌, ◌+◌, ◌≤◌, length, take, drop};
 ghost use Rattle.words.specs.Splice.{splice};
-ghost use Rattle.semantics.specs.Plan.{max_components, max_variables, max_oracles, start_states};
+ghost use Rattle.semantics.specs.Plan.{max_variables, start_states};
 ghost use Rattle.semantics.specs.Rules.{plan_refusal};
 ghost use Rattle.semantics.specs.Move.{initial_state};
-ghost use Rattle.semantics.specs.Image.{image_length, oracles_place, value_place, head, value_bytes, with_marks, configuration_of, marks_of, image as image_of};
+ghost use Rattle.semantics.specs.Image.{value_place, head, value_bytes, with_marks, configuration_of, marks_of, image as image_of};
 ghost use Rattle.layout.specs.Runs.{configuration_in};
 
 use arith::bytes::{i32_at, put_i32};

@@ -94,10 +94,14 @@ set_below_next f g l₀ l r n e d = d ∙ ap (λ (x : List ℕ). set_where (f n)
 
 -- ---- one part
 
--- a port is below 16, and 255 is none
-takes_part_lem : (p : Plan) (i c q : ℕ) → q ≡ port_in p i c → q < 16 → takes_part p i c ≡ true
+-- a port other than 255 is a part
+pub takes_part_lem : (p : Plan) (i c port : ℕ) → port ≡ port_in p i c → (port ≡ 255 → ⊥) → takes_part p i c ≡ true
 unfolding takes_part
-takes_part_lem p i c q e h = ap not (ne_eqb (port_in p i c) 255 (λ d. absurd (omega arith)))
+takes_part_lem p i c port e h = ap not (ne_eqb (port_in p i c) 255 (λ q. h (e ∙ q)))
+
+-- a port is below 16, and 255 is none
+takes_part_low : (p : Plan) (i c q : ℕ) → q ≡ port_in p i c → q < 16 → takes_part p i c ≡ true
+takes_part_low p i c q e h = takes_part_lem p i c q e (λ d. absurd (omega arith))
 
 takes_none : (p : Plan) (i c : ℕ) → port_in p i c ≡ 255 → takes_part p i c ≡ false
 unfolding takes_part
@@ -110,11 +114,11 @@ set_where_none p i c l k x h = rw (takes_none p i c h) refl
 
 pub set_where_part : (p : Plan) (i c : ℕ) (l : List ℕ) (k x : ℕ) → port_in p i c < 16 → set_where (takes_part p i c) l k x ≡ set l k x
 unfolding set_where
-set_where_part p i c l k x h = rw (takes_part_lem p i c (port_in p i c) refl h) refl
+set_where_part p i c l k x h = rw (takes_part_low p i c (port_in p i c) refl h) refl
 
 -- the table has a transition for it
 pub chosen_known : (p : Plan) (chosen : List ℕ) (i c : ℕ) → AllChosen p chosen i → c < 16 → port_in p i c < 16 → get_or chosen (16 * c + port_in p i c) 0 < transitions p
-chosen_known p chosen i c k l h = k.known c l (takes_part_lem p i c (port_in p i c) refl h)
+chosen_known p chosen i c k l h = k.known c l (takes_part_low p i c (port_in p i c) refl h)
 
 -- and its action is that one's
 pub act_part_none : (p : Plan) (chosen : List ℕ) (i c : ℕ) (s : State) → port_in p i c ≡ 255 → act_part p chosen i c s ≡ s
@@ -124,7 +128,7 @@ act_part_none p chosen i c s h = rw (takes_none p i c h) refl
 pub act_part_some : (p : Plan) (chosen : List ℕ) (i c : ℕ) (s : State) → port_in p i c < 16
     → act_part p chosen i c s ≡ site s.locations s.last_ports (acted p s (action_of p (chosen_by p chosen i c))).values
 unfolding act_part acted
-act_part_some p chosen i c s h = rw (takes_part_lem p i c (port_in p i c) refl h) refl
+act_part_some p chosen i c s h = rw (takes_part_low p i c (port_in p i c) refl h) refl
 
 -- none yet, and one component more
 pub acts_none : (p : Plan) (chosen : List ℕ) (i : ℕ) (s : State) → acts_below p chosen i 0 s ≡ s

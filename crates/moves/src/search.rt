@@ -102,7 +102,7 @@ fn narrowed(plan: &[u8], s: Sought, top: Climbed, good: bool) -> Sought
 // The move that settling commits: the lowest one that ends good and above which no enabled one does. The mask has enabled moves, and every enabled one that may
 // end good; the table of choices is that of the state. From the lowest that is left the search climbs to one above which nothing open lies, so none is
 // judged twice, and after a bad one it goes on from the step before, so its climbs read at most two rows of ranks a move. The one found may be made once more. The
-// run after the move is left in the trial, in which it is made; it is lent as the run is.
+// run after the move is left in the trial, in which it is made; it is lent in the run's state. Its marks stay.
 pub fn safe_move(
     plan: &[u8],
     run: &Run,
@@ -112,13 +112,15 @@ pub fn safe_move(
 ) -> Option<usize>
     requires plan_value { plan_refusal plan.now ≡ 0 }
     requires chosen_value { (chosen.now ≡ chosen_table plan.now (state_of run.now.state)) × (oracles_in_range plan.now run.now.oracles ≡ true) }
-    requires trial_value { configuration_in trial.old ≡ configuration_in run.now }
+    requires trial_value { state_of trial.old.state ≡ state_of run.now.state }
     requires moves_bound { (moves < 2 ^ interactions plan.now) × ((j : ℕ) → bit moves j ≡ true → enabled plan.now (state_of run.now.state) j ≡ true) }
     requires by_index { (j : ℕ) → j < interactions plan.now → enabled plan.now (state_of run.now.state) j ≡ true → bit moves j ≡ false → good plan.now (after plan.now (configuration_in run.now) j) ≡ false }
-    ensures { MatchOption result (safe_move plan.now (configuration_in run.now) ≡ interactions plan.now)
+    ensures number_value { MatchOption result (safe_move plan.now (configuration_in run.now) ≡ interactions plan.now)
         (λ n. (n ≡ safe_move plan.now (configuration_in run.now)) × (n < interactions plan.now)
         × (configuration_in trial.new ≡ after plan.now (configuration_in run.now) n)) }
+    ensures marks_kept { trial.new.marks ≡ trial.old.marks }
 {
+    trial.oracles = run.oracles;
     let mut s = Sought {
         open: moves,
         left: moves,
@@ -133,7 +135,8 @@ pub fn safe_move(
         if next.left == 0 && next.best == Some(n) {
             return Some(n);
         }
-        *trial = *run;
+        trial.state = run.state;
+        trial.oracles = run.oracles;
         s = next;
     }
     let n = s.best?;

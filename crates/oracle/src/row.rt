@@ -1,11 +1,40 @@
-// The states of the oracles: their verdicts and next states. The states of all four are one array, 0 where the plan has no such oracle.
+// The states of the oracles: their rows, verdicts and next states. The states of all four are one array, 0 where the plan has no such oracle.
 ghost use Rattle.std.specs.Prelude.{◌≡◌, true, ◌<◌, get_or};
-ghost use Rattle.semantics.specs.Plan.{max_oracles, added_oracles, letters};
+ghost use Rattle.semantics.specs.Plan.{max_oracles, added_oracles, oracle_states, states_before, letters, oracle_at, verdict, next};
 ghost use Rattle.semantics.specs.Rules.{plan_refusal};
 ghost use Rattle.semantics.specs.Move.{next_states, state_in_range, oracles_in_range, lowest_verdict, reaches};
+ghost use Rattle.layout.specs.Laid.{Laid};
 
 use crate::table::Table;
 use layout::header::{added_oracles, oracle_states, oracles};
+use layout::records::{NEXT, row_at};
+
+// The verdict of state q of oracle n, whose row is at a place.
+#[tactic(auto, using(layout::proofs::Places::oracle_row_in), unfolding(semantics::specs::Plan::verdict))]
+pub fn verdict_in(plan: &[u8], row: usize, n: usize, q: usize) -> u8
+    requires { Laid plan.now × (n < max_oracles) × (q < oracle_states plan.now n) × (row ≡ oracle_at plan.now n q) }
+    ensures { result ≡ verdict plan.now n q }
+{
+    plan[row]
+}
+
+// The state that follows q of oracle n on letter a; the row of q is at a place.
+#[tactic(auto, using(layout::proofs::Places::oracle_row_in), unfolding(semantics::specs::Plan::next))]
+pub fn next_in(plan: &[u8], row: usize, n: usize, q: usize, a: usize) -> u8
+    requires { Laid plan.now × (n < max_oracles) × (q < oracle_states plan.now n) × (row ≡ oracle_at plan.now n q) × (a < letters plan.now) }
+    ensures { result ≡ next plan.now n q a }
+{
+    plan[row + (NEXT + a)]
+}
+
+// The place of the row of state q of oracle n, whose first row has the number `first`.
+#[tactic(auto, using(crate::proofs::Tables::rows_end))]
+pub fn row_of(plan: &[u8], n: usize, first: usize, q: usize) -> usize
+    requires { Laid plan.now × (n < max_oracles) × (q < oracle_states plan.now n) × (first ≡ states_before plan.now n) }
+    ensures { result ≡ oracle_at plan.now n q }
+{
+    row_at(plan, first + q)
+}
 
 // Whether oracle n has state q; 0 where the plan has no oracle n.
 #[tactic(auto, using(layout::proofs::Sections::laid_accepted, crate::proofs::States::known_by_count))]

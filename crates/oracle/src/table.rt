@@ -3,8 +3,8 @@ ghost use Rattle.std.specs.Prelude.{◌≡◌, ◌+◌, ◌≤◌, ◌<◌};
 ghost use Rattle.semantics.specs.Plan.{max_oracles, oracle_states, states_before, letters, oracle_at, verdict, next};
 ghost use Rattle.layout.specs.Laid.{Laid};
 
+use crate::row::{next_in, row_of, verdict_in};
 use layout::header::oracle_states;
-use layout::records::{NEXT, row_at};
 
 // Oracle n of a plan: its first row has the number `first`, and there are so many states.
 #[derive(Clone, Copy)]
@@ -50,29 +50,26 @@ impl<'a> Table<'a> {
     }
 
     // The place of the row of state q.
-    #[tactic(auto, using(crate::proofs::Tables::rows_end))]
     fn row(self, q: usize) -> usize
         requires { q < self.states }
         ensures { result ≡ oracle_at self.entry.plan.now self.entry.n q }
     {
-        row_at(self.plan, self.first + q)
+        row_of(self.plan, self.n, self.first, q)
     }
 
     // The verdict of state q.
-    #[tactic(auto, using(layout::proofs::Places::oracle_row_in), unfolding(semantics::specs::Plan::verdict))]
     pub fn verdict(self, q: usize) -> u8
         requires { q < self.states }
         ensures { result ≡ verdict self.entry.plan.now self.entry.n q }
     {
-        self.plan[self.row(q)]
+        verdict_in(self.plan, self.row(q), self.n, q)
     }
 
     // The state that follows q on letter a.
-    #[tactic(auto, using(layout::proofs::Places::oracle_row_in), unfolding(semantics::specs::Plan::next))]
     pub fn next(self, q: usize, a: usize) -> u8
         requires { (q < self.states) × (a < letters self.plan.now) }
         ensures { result ≡ next self.entry.plan.now self.entry.n q a }
     {
-        self.plan[self.row(q) + (NEXT + a)]
+        next_in(self.plan, self.row(q), self.n, q, a)
     }
 }

@@ -80,6 +80,11 @@ module _ (k : ℕ) (l : List Lane) where
       (λ y. subst (λ (b : Bool). Found (suc k) l (cond b (Some here) s.longest)) (sym y) (taken e s.longest y f))
       (λ y. subst (λ (b : Bool). Found (suc k) l (cond b (Some here) s.longest)) (sym y) (kept s.longest y f))
 
+-- record k is the one found, where it takes the place of the one before
+chosen-now : (k : ℕ) (l : List Lane) (s : Scan) → k < 8 → (lane_at l k).number ≡ k → better s.longest (lane_at l k) ≡ true → Found k l s.longest
+    → Best (suc k) l (lane_at l k).number (wait_of l k)
+chosen-now k l s h e y f = taken k l e s.longest y f
+
 pub found : (k : ℕ) (l : List Lane) → (scan_to k l).counted ≡ true → ((j : ℕ) → j < k → (lane_at l j).number ≡ j) × Found k l (scan_to k l).longest
 unfolding scan_to scan_step
 found zero l c = (λ j g. absurd (not-suc-le-zero g), λ j g. absurd (not-suc-le-zero g))

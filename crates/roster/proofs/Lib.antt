@@ -1,3 +1,4 @@
+pub mod ChangedRows
 pub mod Choice
 pub mod Dispatch
 pub mod EachLane

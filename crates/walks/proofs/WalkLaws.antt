@@ -5,7 +5,8 @@ use native.Mathlib.Numerals.{add-one}
 use native.Mathlib.Omega.{arith}
 use mathlib.Core.Bool.{Bool, true, false, cond, ◌&&◌}
 use mathlib.Core.List.{List, [], ◌∷◌}
-use lib.ListN.{length, drop}
+use lib.ListN.{length, get_or, take, drop}
+use lib.Seq.{take-suc}
 use lib.Dec.{eqb}
 use Rattle.semantics.specs.Bytes.{entries, u16}
 use Rattle.semantics.specs.Plan.{Plan}
@@ -13,7 +14,8 @@ use Rattle.semantics.specs.Move.{Configuration, after, good, replay}
 use Rattle.semantics.specs.Load.{stops_at, completes}
 use Rattle.semantics.specs.Log.{cause_from, passes, cause, right, wrong, walked}
 use Rattle.semantics.specs.Calls.{accepted}
-use Rattle.semantics.proofs.Basics.{bool_cases, eqb-true, eq-eqb, ne_eqb}
+use Rattle.semantics.proofs.Basics.{bool_cases, eqb-true, eq-eqb, ne_eqb, get_or-table}
+use Rattle.semantics.proofs.Loads.{replay_append, replay_one}
 use Rattle.semantics.proofs.LogEntries.{entries_from, entries_end, entries_long}
 use Rattle.semantics.proofs.LogWalk.{walked_on, walked_stops}
 use Rattle.words.proofs.TestLaws.{first_fails, second_says}
@@ -42,19 +44,35 @@ module _ (p : Plan) (v : ℕ) (c : Configuration) (i : ℕ) (is : List ℕ) wher
 -- ---- from entry k on
 
 -- A walk over the entries of l that began in the configuration d is in c at entry k: all stops k entries later than what is left does, for the same cause, and ends
--- where that does.
+-- where that does; and c is where the k entries before lead.
 pub record At (p : Plan) (v : ℕ) (d : Configuration) (l : List ℕ) (c : Configuration) (k : ℕ) : Type 0 where
   pub stops : stops_from p v d (entries l) ≡ k + stops_from p v c (drop k (entries l))
   pub causes : stop_cause p v d (entries l) ≡ stop_cause p v c (drop k (entries l))
   pub ends : replay p d (entries l) ≡ replay p c (drop k (entries l))
+  pub so_far : c ≡ replay p d (take k (entries l))
 
 pub at-start : (p : Plan) (v : ℕ) (d : Configuration) (l : List ℕ) → At p v d l d 0
-at-start p v d l = record { stops = omega arith; causes = refl; ends = refl }
+unfolding replay
+at-start p v d l = record { stops = omega arith; causes = refl; ends = refl; so_far = refl }
 
 module _ (p : Plan) (v : ℕ) (d : Configuration) (l : List ℕ) (c : Configuration) (k : ℕ) (w : At p v d l c k) where
   module _ (i : ℕ) (h : k < length l / 2) (e : i ≡ u16 l (2 * k)) where
     here : drop k (entries l) ≡ i ∷ drop (suc k) (entries l)
     here = entries_from l k h ∙ ap (λ (j : ℕ). j ∷ drop (suc k) (entries l)) (sym e)
+
+    held : get_or (entries l) k 0 ≡ i
+    unfolding entries
+    held = get_or-table (length l / 2) (λ j. u16 l (2 * j)) 0 k h ∙ sym e
+
+    one_more : after p c i ≡ replay p d (take (suc k) (entries l))
+    one_more =
+        let x : ℕ = get_or (entries l) k 0 in
+        sym
+        (ap (replay p d) (take-suc (entries l) k 0 (omega (arith, h, entries_long l)))
+        ∙ replay_append p d (take k (entries l)) (x ∷ [])
+        ∙ ap (λ (y : Configuration). replay p y (x ∷ [])) (sym w.so_far)
+        ∙ replay_one p c x
+        ∙ ap (after p c) held)
 
     -- an entry that passes
     pub at_next : (n : Configuration) → true ≡ passes p v c i → n ≡ after p c i → At p v d l n (k + 1)
@@ -67,6 +85,7 @@ module _ (p : Plan) (v : ℕ) (d : Configuration) (l : List ℕ) (c : Configurat
           stops = omega (arith, w.stops, on);
           causes = w.causes ∙ ap (stop_cause p v c) here ∙ caused_later p v c i rest (sym a);
           ends = w.ends ∙ ap (replay p c) here;
+          so_far = one_more;
         })
 
     -- one that does not

@@ -49,6 +49,7 @@ pub fn hand_in_from(
 }
 
 // The same, on an image that has its length.
+#[tactic(auto, using(engine::proofs::ReadLaws::plan_passed))]
 fn hand_in_on(
     plan: &[u8],
     image: &mut Image,

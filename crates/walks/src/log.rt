@@ -58,7 +58,7 @@ pub fn packed(found: Result<(), LogError>) -> u32
     ensures { result ≡ packed (log_answer found) }
 {
     match found {
-        Ok(()) => answer::packed(Ok(Answer::Accepted)),
+        Ok(()) => answer::packed::<Refusal>(Ok(Answer::Accepted)),
         Err(LogError::Refused(refusal)) => answer::packed(Err(refusal)),
         Err(LogError::Wrong(stop)) => 6 * 65536 + u32::from(u8::from(stop.cause)),
     }

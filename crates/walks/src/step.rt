@@ -1,6 +1,6 @@
 // One step of a walk, of a log or a list: a move that the ranking allows is made, of any other the cause is said. A move passes from the verdict v on: 2 for a log, 1
 // for a list.
-ghost use Rattle.std.specs.Prelude.{◌≡◌, true, not, ◌<◌, eqb, replicate, is_ok, IfOk};
+ghost use Rattle.std.specs.Prelude.{◌≡◌, true, not, ◌<◌, eqb, replicate, is_ok, IfOk, OnErr};
 ghost use Rattle.semantics.specs.Plan.{transitions, interactions, rank_row};
 ghost use Rattle.semantics.specs.Rules.{plan_refusal};
 ghost use Rattle.semantics.specs.Move.{after, oracles_in_range, leads_above};
@@ -62,8 +62,8 @@ fn leading_above(plan: &[u8], run: &Run, chosen: &[u16; 256], i: usize, ranked: 
     search::leads_above(plan, run, chosen, i, v)
 }
 
-// Makes move i where the ranking allows it and it leads to v or more: the enabled ones above it are judged first, then it is made in place. What a move that does
-// not pass leaves is of no use.
+// Makes move i where the ranking allows it and it leads to v or more: the enabled ones above it are judged first, then it is made in place. The state that a move
+// leaves that does not pass is of no use; the oracles' states are then as they were. The marks stay.
 pub fn step(plan: &[u8], run: &mut Run, i: usize, v: u8) -> Result<(), Cause>
     requires plan_value { plan_refusal plan.now ≡ 0 }
     requires oracles_value { oracles_in_range plan.now run.old.oracles ≡ true }
@@ -71,6 +71,8 @@ pub fn step(plan: &[u8], run: &mut Run, i: usize, v: u8) -> Result<(), Cause>
         × (cause_said result ≡ cause_from plan.now v (configuration_in run.old) i) }
     ensures run_after { IfOk result (λ _. configuration_in run.new ≡ after plan.now (configuration_in run.old) i) }
     ensures in_range { oracles_in_range plan.now run.new.oracles ≡ true }
+    ensures oracles_kept { OnErr result (run.new.oracles ≡ run.old.oracles) }
+    ensures marks_kept { run.new.marks ≡ run.old.marks }
 {
     if i >= interactions(plan) {
         return Err(Cause::NoSuchMove);
@@ -85,8 +87,10 @@ pub fn step(plan: &[u8], run: &mut Run, i: usize, v: u8) -> Result<(), Cause>
     if leading_above(plan, run, &chosen, i, ranked, v) {
         return Err(Cause::Outranked);
     }
+    let oracles = run.oracles;
     judge::after(plan, run, &chosen, i);
     if !row::reaches(plan, run.oracles, v) {
+        run.oracles = oracles;
         return Err(Cause::EndsLow);
     }
     Ok(())

@@ -1,5 +1,5 @@
 -- What the operations on 64-bit words do to the bits of a number: shifts, and, or, the complement, the lowest and the highest set bit. Laws are stated over a width n.
-use mathlib.Core.Path.{◌≡◌, refl, sym, ap, ap₂, ◌∙◌}
+use mathlib.Core.Path.{◌≡◌, refl, sym, ap, ap₂, ◌∙◌, subst}
 use Prim.Native.Nat.{ℕ, zero, suc, ◌+◌, ◌-◌, ◌*◌, ◌/◌, ◌%◌, ◌^◌, ◌≤◌, ◌<◌, zero-le, suc-le-suc}
 use native.Mathlib.Nat.{le_of_suc-le-suc, not-suc-le-zero, lt_of_le_of_lt, pow-suc, div-one, add-zero, zero-add, suc-add, one-mul, mod-lt, zero-lt-suc}
 use native.Mathlib.Numerals.{one-add}
@@ -8,7 +8,7 @@ use mathlib.Core.Bool.{Bool, true, false, not, ◌&&◌, ◌||◌, and-true, and
 use lib.Dec.{ltb, eqb, eqb-suc-zero, eqb-zero-suc, eqb-suc-suc, leb-suc-suc, lit<}
 use lib.Pow.{pow_pos, shr-shr, shl_exact}
 use lib.Bits.{bit_and, bit_or, and_shr, and_mod, and_mask, and_le_l, or_shr, or_mod, or_lt}
-use lib.Count.{count_trailing_zeros, under}
+use lib.Count.{count_trailing_zeros, count_leading_zeros, under, leading_top}
 use Rattle.semantics.specs.Bytes.{implies, every, some_below, lowest, bit, mask}
 use Rattle.semantics.proofs.Basics.{bool_cases, absurd_bool, same_test, not_yes, not_no, ltb-true, lt-ltb, le-ltb, eqb-true, eq-eqb, ne_eqb, every-at, every_all, some_found, some-none, Lowest, lowest_is, lowest_unique, lowest-none}
 use Rattle.semantics.proofs.Masks.{bit-zero, bit_mask_over, mask_same, mask-bits}
@@ -191,6 +191,13 @@ top_set (suc j) m h l = top_set j (m / 2) (omega (arith, pow-suc 2 j)) (omega (a
 -- and none above it
 pub top_bit : (r m : ℕ) → 2 ^ r ≤ m → m < 2 * 2 ^ r → (bit m r ≡ true) × ((j : ℕ) → r < j → bit m j ≡ false)
 top_bit r m h l = let k : m < 2 ^ suc r = omega (arith, pow-suc 2 r) in (top_set r m h k, λ j g. bit_above (suc r) m j k g)
+
+-- the bit below the leading zeros is set, and none above it
+pub highest_set : (n m r : ℕ) → 0 < m → m < 2 ^ n → count_leading_zeros n m + suc r ≡ n → (bit m r ≡ true) × ((j : ℕ) → r < j → bit m j ≡ false)
+highest_set n m r h l e =
+    let t = leading_top n m h l in
+    let q : t.0 ≡ r = omega (arith, t.1) in
+    (subst (λ (x : ℕ). bit m x ≡ true) q (top_set t.0 m t.2 t.3), λ j g. bit_above (suc t.0) m j t.3 (omega (arith, t.1)))
 
 -- ---- words as tests
 

@@ -174,7 +174,8 @@ fn main(rt: HostRuntime) -> io::Result<()> {
         images: Images::new(),
     };
     for line in text[..len].split(|b| *b == b'\n') {
-        if !line.starts_with(b"#") {
+        // an empty line has no step, and is passed over at once
+        if !line.is_empty() && !line.starts_with(b"#") {
             cases.line(&rt, line)?;
         }
     }

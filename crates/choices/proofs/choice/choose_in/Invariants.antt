@@ -7,4 +7,4 @@ use Rattle.choices.proofs.ChoiceLaws.{FoundIn}
 use Rattle.choices.proofs.choice.choose_in.Given as goal
 
 abbrev pub invariant-loop-t : goal.invariant-loop-t
-invariant-loop-t l = (l.t-end ≡ transitions l.plan) × (l.row + 24 ≤ length l.plan) × (length l.out ≡ 256) × FoundIn l.plan (site l.state.locations l.state.last_ports l.state.values) l.i l.out l.t
+invariant-loop-t l = (l.t-end ≡ transitions l.plan) × (l.row + 24 ≤ length l.plan) × FoundIn l.plan (site l.state.locations l.state.last_ports l.state.values) l.i l.out l.t

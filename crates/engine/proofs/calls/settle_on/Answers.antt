@@ -25,15 +25,15 @@ safe_move-requires-clause-by_index c = closed-move (read (goal.at.safe_move-requ
 
 pub returns-in-Some : goal.returns-in-Some
 returns-in-Some c =
-    let (is, low, moved) = c.in-Some.ensures in
+    let (is, low, moved) = c.in-Some.ensures.number_value in
     let e = parts (ends_settled (read (goal.at.returns-in-Some c).In_ok-lane) c.in-Some.n is low) in
     (e.0, c.store.ensures ∙ ap (λ (x : Configuration). image c.args.plan.now x 0) moved ∙ e.1)
 
 pub returns-then-lane-eq0 : goal.returns-then-lane-eq0
 returns-then-lane-eq0 c =
-    parts (ends_stalled (read (goal.at.returns-then-lane-eq0 c).In_ok-lane) c.in_default.ensures c.if-lane-eq0.true)
+    parts (ends_stalled (read (goal.at.returns-then-lane-eq0 c).In_ok-lane) c.in_default.ensures.number_value c.if-lane-eq0.true)
 
 pub returns : goal.returns
 returns c =
-    let e = parts (ends_penned (read (goal.at.returns c).In_ok-lane) c.in_default.ensures c.if-lane-eq0.false) in
+    let e = parts (ends_penned (read (goal.at.returns c).In_ok-lane) c.in_default.ensures.number_value c.if-lane-eq0.false) in
     (e.0, c.put_marks.ensures ∙ e.1)

@@ -5,6 +5,7 @@ use Prim.Native.Nat.{ℕ, ◌+◌, ◌<◌, ◌^◌}
 use native.Mathlib.Nat.{lt_of_le_of_lt}
 use native.Mathlib.Omega.{arith}
 use Rattle.semantics.specs.Bytes.{bit}
+use Rattle.semantics.specs.Code.{State}
 use Rattle.semantics.specs.Plan.{interactions, below}
 use Rattle.semantics.specs.Move.{Configuration, enabled, after, good}
 use Rattle.semantics.proofs.Basics.{bool_cases}
@@ -71,8 +72,9 @@ none_left c = omega arith
 pub loop-s-init : goal.loop-s-init
 loop-s-init c = (
   seeks_start c.args.plan.now (configuration_in c.args.run.now) c.args.moves c.requires.moves_bound.0 c.requires.moves_bound.1 c.requires.by_index,
-  c.requires.trial_value,
+  ap (λ (s : State). record { state = s; oracles = c.args.run.now.oracles }) c.requires.trial_value,
   path_empty c.args.plan.now c.args.moves c.args.moves 0 refl,
+  refl,
 )
 
 pub after-requires-clause-i_bound : goal.after-requires-clause-i_bound
@@ -88,12 +90,12 @@ pub narrowed-next-requires-clause-left_bound : goal.narrowed-next-requires-claus
 narrowed-next-requires-clause-left_bound c =
     (lt_of_le_of_lt c.loop-s.invariant.0.left≤ c.requires.moves_bound.0, inside (goal.at.narrowed-next-requires-clause-left_bound c).After-climb-top)
 
-pub returns-then-eq : goal.returns-then-eq
-returns-then-eq c =
+pub returns-then-eq-clause-number_value : goal.returns-then-eq-clause-number_value
+returns-then-eq-clause-number_value c =
     let n = c.climb-top.result.number in
-    let k = (known (goal.at.returns-then-eq c).After-narrowed-next) in
+    let k = (known (goal.at.returns-then-eq-clause-number_value c).After-narrowed-next) in
     let (e, l) = seeks_found c.args.plan.now (configuration_in c.args.run.now) c.args.moves c.narrowed-next.result k c.if-next-eq0.true n (best_is _ n (sym c.eq.ensures ∙ c.if-eq.true)) in
-    (e, l, c.after.ensures.run_after.0 ∙ (same (goal.at.returns-then-eq c).At-loop-s) n)
+    (e, l, c.after.ensures.run_after.0 ∙ (same (goal.at.returns-then-eq-clause-number_value c).At-loop-s) n)
 
 pub loop-s-smaller : goal.loop-s-smaller
 loop-s-smaller c =
@@ -116,12 +118,12 @@ loop-s-preserved c =
     let p = c.args.plan.now in
     bool_cases c.good.result (λ t. path_empty p _ _ c.narrowed-next.result.path (c.narrowed-next.ensures.0 t).path_none)
     (λ f. path_bad p sought c.narrowed-next.result c.climb-top.result.path c.climb-top.result.number (open_inside (goal.at.loop-s-preserved c).At-loop-s) c.climb-top.ensures.number_value.0 steps (c.narrowed-next.ensures.1 f)) in
-    ((known (goal.at.loop-s-preserved c).After-narrowed-next), refl, onward)
+    ((known (goal.at.loop-s-preserved c).After-narrowed-next), refl, onward, c.after.ensures.marks_kept ∙ c.loop-s.invariant.3)
 
-pub returns-in_err-n : goal.returns-in_err-n
-returns-in_err-n c =
+pub returns-in_err-n-clause-number_value : goal.returns-in_err-n-clause-number_value
+returns-in_err-n-clause-number_value c =
     rw c.from_residual.ensures
-    (seeks_none c.args.plan.now (configuration_in c.args.run.now) c.args.moves c.loop-s.s c.loop-s.invariant.0 (none_left (goal.at.returns-in_err-n c).After-loop-s) c.in_err-n.was)
+    (seeks_none c.args.plan.now (configuration_in c.args.run.now) c.args.moves c.loop-s.s c.loop-s.invariant.0 (none_left (goal.at.returns-in_err-n-clause-number_value c).After-loop-s) c.in_err-n.was)
 
 pub after-requires-2-clause-i_bound : goal.after-requires-2-clause-i_bound
 after-requires-2-clause-i_bound c =
@@ -129,8 +131,8 @@ after-requires-2-clause-i_bound c =
     let (l, m) = c.loop-s.invariant.0.best_allowed n c.in_ok-n.was in
     may_try (goal.at.after-requires-2-clause-i_bound c).At-loop-s n l (commit_enabled c.args.plan.now (configuration_in c.args.run.now) n m)
 
-pub returns : goal.returns
-returns c =
+pub returns-clause-number_value : goal.returns-clause-number_value
+returns-clause-number_value c =
     let n = c.in_ok-n.n in
-    let (e, l) = seeks_found c.args.plan.now (configuration_in c.args.run.now) c.args.moves c.loop-s.s c.loop-s.invariant.0 (none_left (goal.at.returns c).After-loop-s) n c.in_ok-n.was in
-    (e, l, c.after-2.ensures.run_after.0 ∙ (same (goal.at.returns c).At-loop-s) n)
+    let (e, l) = seeks_found c.args.plan.now (configuration_in c.args.run.now) c.args.moves c.loop-s.s c.loop-s.invariant.0 (none_left (goal.at.returns-clause-number_value c).After-loop-s) n c.in_ok-n.was in
+    (e, l, c.after-2.ensures.run_after.0 ∙ (same (goal.at.returns-clause-number_value c).At-loop-s) n)

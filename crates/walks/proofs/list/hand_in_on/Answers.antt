@@ -11,7 +11,7 @@ use Rattle.layout.specs.Runs.{configuration_in}
 use Rattle.moves.proofs.SearchLaws.{ends_good}
 use Rattle.engine.specs.Answers.{answered}
 use Rattle.engine.proofs.CallLaws.{parts}
-use Rattle.engine.proofs.ReadLaws.{Read, ends_refused, passed_on, none, lawful, lane_is, in_range}
+use Rattle.engine.proofs.ReadLaws.{Read, ends_refused, passed_on, none, lane_is, in_range}
 use Rattle.walks.proofs.ListLaws.{entries_few, stop_few, list_22, list-stopped, list-low, list-made}
 use Rattle.walks.proofs.list.hand_in_on.Goals as goal
 use Rattle.walks.proofs.list.hand_in_on.Goals.{After-reaches, Else-not-list_ok, In_ok-read}
@@ -37,9 +37,6 @@ pub returns-then-not-list_ok : goal.returns-then-not-list_ok
 returns-then-not-list_ok c =
     parts (list_22 _ _ c.args.moves.now (none (read (goal.at.returns-then-not-list_ok c).In_ok-read)) c.if-not-list_ok.ensures)
 
-pub walk-requires-clause-plan_value : goal.walk-requires-clause-plan_value
-walk-requires-clause-plan_value c = (lawful (read (goal.at.walk-requires-clause-plan_value c).In_ok-read)).plan_accepted
-
 pub walk-requires-clause-oracles_value : goal.walk-requires-clause-oracles_value
 walk-requires-clause-oracles_value c = in_range (read (goal.at.walk-requires-clause-oracles_value c).In_ok-read)
 
@@ -57,17 +54,11 @@ returns-in-Err c =
 pub overflow_cast-count : goal.overflow_cast-count
 overflow_cast-count c = omega (arith, entries_few c.args.moves.now (listed (goal.at.overflow_cast-count c).Else-not-list_ok))
 
-pub reaches-requires-clause-plan_value : goal.reaches-requires-clause-plan_value
-reaches-requires-clause-plan_value c = (lawful (read (goal.at.reaches-requires-clause-plan_value c).In_ok-read)).plan_accepted
-
 pub returns-then-not-reaches : goal.returns-then-not-reaches
 returns-then-not-reaches c =
     let at = goal.at.returns-then-not-reaches c in
     let r = read at.In_ok-read in
     parts (list-low _ _ c.args.moves.now (none r) (listed at.Else-not-list_ok) _ (lane_is r) _ (sym (entries_long c.args.moves.now)) c.in_default.ensures.index_value.1 _ (ends at.After-reaches) c.if-not-reaches.true)
-
-pub store-requires : goal.store-requires
-store-requires c = record { plan_value = (lawful (read (goal.at.store-requires c).In_ok-read)).plan_accepted }
 
 pub returns : goal.returns
 returns c =

@@ -7,4 +7,4 @@ use Rattle.walks.proofs.walk.walk.Given as goal
 
 -- where the walk is
 abbrev pub invariant-loop-k : goal.invariant-loop-k
-invariant-loop-k l = At l.plan l.v (configuration_in l.initial.run) l.moves (configuration_in l.run) l.k × (oracles_in_range l.plan l.run.oracles ≡ true)
+invariant-loop-k l = At l.plan l.v (configuration_in l.initial.run) l.moves (configuration_in l.run) l.k × (oracles_in_range l.plan l.run.oracles ≡ true) × (l.run.marks ≡ l.initial.run.marks)
