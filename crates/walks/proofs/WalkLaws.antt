@@ -44,35 +44,19 @@ module _ (p : Plan) (v : ℕ) (c : Configuration) (i : ℕ) (is : List ℕ) wher
 -- ---- from entry k on
 
 -- A walk over the entries of l that began in the configuration d is in c at entry k: all stops k entries later than what is left does, for the same cause, and ends
--- where that does; and c is where the k entries before lead.
+-- where that does.
 pub record At (p : Plan) (v : ℕ) (d : Configuration) (l : List ℕ) (c : Configuration) (k : ℕ) : Type 0 where
   pub stops : stops_from p v d (entries l) ≡ k + stops_from p v c (drop k (entries l))
   pub causes : stop_cause p v d (entries l) ≡ stop_cause p v c (drop k (entries l))
   pub ends : replay p d (entries l) ≡ replay p c (drop k (entries l))
-  pub so_far : c ≡ replay p d (take k (entries l))
 
 pub at-start : (p : Plan) (v : ℕ) (d : Configuration) (l : List ℕ) → At p v d l d 0
-unfolding replay
-at-start p v d l = record { stops = omega arith; causes = refl; ends = refl; so_far = refl }
+at-start p v d l = record { stops = omega arith; causes = refl; ends = refl }
 
 module _ (p : Plan) (v : ℕ) (d : Configuration) (l : List ℕ) (c : Configuration) (k : ℕ) (w : At p v d l c k) where
   module _ (i : ℕ) (h : k < length l / 2) (e : i ≡ u16 l (2 * k)) where
     here : drop k (entries l) ≡ i ∷ drop (suc k) (entries l)
     here = entries_from l k h ∙ ap (λ (j : ℕ). j ∷ drop (suc k) (entries l)) (sym e)
-
-    held : get_or (entries l) k 0 ≡ i
-    unfolding entries
-    held = get_or-table (length l / 2) (λ j. u16 l (2 * j)) 0 k h ∙ sym e
-
-    one_more : after p c i ≡ replay p d (take (suc k) (entries l))
-    one_more =
-        let x : ℕ = get_or (entries l) k 0 in
-        sym
-        (ap (replay p d) (take-suc (entries l) k 0 (omega (arith, h, entries_long l)))
-        ∙ replay_append p d (take k (entries l)) (x ∷ [])
-        ∙ ap (λ (y : Configuration). replay p y (x ∷ [])) (sym w.so_far)
-        ∙ replay_one p c x
-        ∙ ap (after p c) held)
 
     -- an entry that passes
     pub at_next : (n : Configuration) → true ≡ passes p v c i → n ≡ after p c i → At p v d l n (k + 1)
@@ -85,7 +69,6 @@ module _ (p : Plan) (v : ℕ) (d : Configuration) (l : List ℕ) (c : Configurat
           stops = omega (arith, w.stops, on);
           causes = w.causes ∙ ap (stop_cause p v c) here ∙ caused_later p v c i rest (sym a);
           ends = w.ends ∙ ap (replay p c) here;
-          so_far = one_more;
         })
 
     -- one that does not
@@ -113,6 +96,38 @@ module _ (p : Plan) (v : ℕ) (d : Configuration) (l : List ℕ) (c : Configurat
   pub at_end_in : k ≡ length l / 2 → c ≡ replay p d (entries l)
   unfolding replay
   at_end_in h = sym (w.ends ∙ ap (replay p c) (entries_end l k (omega arith)))
+
+-- The same, and c is where the k entries before lead.
+pub record AtSoFar (p : Plan) (v : ℕ) (d : Configuration) (l : List ℕ) (c : Configuration) (k : ℕ) : Type 0 where
+  pub at : At p v d l c k
+  pub so_far : c ≡ replay p d (take k (entries l))
+
+pub so_far_start : (p : Plan) (v : ℕ) (d : Configuration) (l : List ℕ) → AtSoFar p v d l d 0
+unfolding replay
+so_far_start p v d l = record { at = at-start p v d l; so_far = refl }
+
+module _ (p : Plan) (v : ℕ) (d : Configuration) (l : List ℕ) (c : Configuration) (k : ℕ) (w : AtSoFar p v d l c k) (i : ℕ) (h : k < length l / 2) (e : i ≡ u16 l (2 * k)) where
+  held : get_or (entries l) k 0 ≡ i
+  unfolding entries
+  held = get_or-table (length l / 2) (λ j. u16 l (2 * j)) 0 k h ∙ sym e
+
+  one_more : after p c i ≡ replay p d (take (suc k) (entries l))
+  one_more =
+      let x : ℕ = get_or (entries l) k 0 in
+      sym
+      (ap (replay p d) (take-suc (entries l) k 0 (omega (arith, h, entries_long l)))
+      ∙ replay_append p d (take k (entries l)) (x ∷ [])
+      ∙ ap (λ (y : Configuration). replay p y (x ∷ [])) (sym w.so_far)
+      ∙ replay_one p c x
+      ∙ ap (after p c) held)
+
+  -- an entry that passes
+  pub so_far_next : (n : Configuration) → true ≡ passes p v c i → n ≡ after p c i → AtSoFar p v d l n (k + 1)
+  so_far_next n a q =
+      record {
+        at = at_next p v d l c k w.at i h e n a q;
+        so_far = q ∙ one_more ∙ ap (λ (j : ℕ). replay p d (take j (entries l))) (sym (add-one k));
+      }
 
 -- ---- of a log
 
