@@ -218,7 +218,7 @@ LowestBelow p s i out n = (c : ℕ) → c < components p → takes_part p i c �
 -- The table when the transitions below n that go through a port of interaction i were considered.
 pub record FoundIn (p : Plan) (s : State) (i : ℕ) (out : List ℕ) (n : ℕ) : Type 0 where
   pub long : length out ≡ 256
-  pub found : (c : ℕ) → c < components p → takes_part p i c ≡ true → chosen_by p out i c ≡ lowest_or (transitions p) n (ready p s c (port_in p i c))
+  pub found : LowestBelow p s i out n
 
 module _ (p : Plan) (s : State) (i : ℕ) where
   pub found_none : (out : List ℕ) → plan_refusal p ≡ 0 → i < interactions p → out ≡ replicate 256 (transitions p) → FoundIn p s i out 0
@@ -233,10 +233,10 @@ module _ (p : Plan) (s : State) (i : ℕ) where
             ∙ sym (or_none (transitions p) (ready p s c (port_in p i c)));
       }
 
-  -- all transitions were considered; the `lowest_` laws are of a table of any length
-  pub lowest_all : (out : List ℕ) (n : ℕ) → n ≡ transitions p → LowestBelow p s i out n → ChosenIn p s out i
+  -- all transitions were considered
+  pub lowest_below_all : (out : List ℕ) (n : ℕ) → n ≡ transitions p → LowestBelow p s i out n → ChosenIn p s out i
   unfolding chosen_in chosen
-  lowest_all out n e f =
+  lowest_below_all out n e f =
       record {
         used =
             λ c m t.
@@ -245,12 +245,12 @@ module _ (p : Plan) (s : State) (i : ℕ) where
       }
 
   pub found_all : (out : List ℕ) (n : ℕ) → n ≡ transitions p → FoundIn p s i out n → ChosenIn p s out i
-  found_all out n e f = lowest_all out n e f.found
+  found_all out n e f = lowest_below_all out n e f.found
 
   module _ (out : List ℕ) (t : ℕ) (m : t < transitions p) (f : LowestBelow p s i out t) where
     -- transition t was considered
-    pub lowest_step : (r : List ℕ) → plan_refusal p ≡ 0 → i < interactions p → length out ≡ 256 → r ≡ noted p s t out → LowestBelow p s i r (t + 1)
-    lowest_step r h l n e c q u =
+    pub lowest_below_step : (r : List ℕ) → plan_refusal p ≡ 0 → i < interactions p → length out ≡ 256 → r ≡ noted p s t out → LowestBelow p s i r (t + 1)
+    lowest_below_step r h l n e c q u =
         let w = part_place p i c h l q u in
         let k = 16 * c + port_in p i c in
         let g = ready p s c (port_in p i c) in
@@ -260,20 +260,20 @@ module _ (p : Plan) (s : State) (i : ℕ) where
         ∙ sym (or_next (transitions p) t g m) ∙ ap (λ (x : ℕ). lowest_or (transitions p) x g) (sym (add-one t))
 
     -- transition t is not of the interaction
-    pub lowest_skip : (port_in p i (component_of p t) ≡ port_of p t → ⊥) → LowestBelow p s i out (t + 1)
-    lowest_skip e c q u =
+    pub lowest_below_skip : (port_in p i (component_of p t) ≡ port_of p t → ⊥) → LowestBelow p s i out (t + 1)
+    lowest_below_skip e c q u =
         let g = ready p s c (port_in p i c) in
         let k = lowest_or (transitions p) t g in
         f c q u ∙ sym (or_next (transitions p) t g m ∙ cond_no (eqb k (transitions p)) (g t) t k (unready p s i t c e))
         ∙ ap (λ (x : ℕ). lowest_or (transitions p) x g) (sym (add-one t))
 
   module _ (out : List ℕ) (t : ℕ) (m : t < transitions p) (f : FoundIn p s i out t) where
-    -- the same of a table that keeps its length
+    -- the same, and the table keeps its length
     pub found_step : (r : List ℕ) → plan_refusal p ≡ 0 → i < interactions p → r ≡ noted p s t out → length r ≡ 256 → FoundIn p s i r (t + 1)
-    found_step r h l e n = record { long = n; found = lowest_step out t m f.found r h l f.long e }
+    found_step r h l e n = record { long = n; found = lowest_below_step out t m f.found r h l f.long e }
 
     pub found_skip : (port_in p i (component_of p t) ≡ port_of p t → ⊥) → FoundIn p s i out (t + 1)
-    found_skip e = record { long = f.long; found = lowest_skip out t m f.found e }
+    found_skip e = record { long = f.long; found = lowest_below_skip out t m f.found e }
 
 -- whether the transition is named, and what becomes of the table in either case
 pub found_join : (p : Plan) (s : State) (i : ℕ) (out : List ℕ) (t : ℕ) → t < transitions p → FoundIn p s i out t → plan_refusal p ≡ 0 → i < interactions p
